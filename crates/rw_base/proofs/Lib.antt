@@ -1,0 +1,4 @@
+pub mod PlaceLemmas
+pub mod Tiles
+pub mod NewTextLemmas
+pub mod Choosing

@@ -1,0 +1,5 @@
+pub mod Arena
+pub mod NewText
+pub mod Chosen
+pub mod Places
+pub mod Laws

@@ -1,0 +1,140 @@
+// Places in a text, and why a text is refused.
+ghost use Rattle.std.specs.Prelude.{◌≡◌, ◌<◌, ◌≤◌, ◌-◌, length};
+ghost use Rattle.rw_base.specs.Places.{place_at, ends_line, goes_on};
+
+use crate::NoMemory;
+use std::alloc::{AllocError, AllocFailed};
+
+/// A place in a text: line and column from 1, byte from 0. Lines end at LF, at CR LF or at a CR alone. Columns count
+/// the bytes that aren't UTF-8 continuation bytes.
+#[derive(Clone, Copy, Debug, PartialEq, Eq)]
+pub struct Place {
+    pub line: u32,
+    pub column: u32,
+    pub byte: u32,
+}
+
+/// Why a text is refused.
+#[derive(Clone, Copy, Debug, PartialEq, Eq)]
+pub enum Cause {
+    NotUtf8 = 1,
+    BadLeaf = 2,
+    Unexpected = 3,
+    Unfinished = 4,
+    TooLarge = 5,
+    TooDeep = 6,
+}
+
+/// A text is refused at a place.
+#[derive(Clone, Copy, Debug, PartialEq, Eq)]
+pub struct Refused {
+    pub place: Place,
+    pub cause: Cause,
+}
+
+/// What a reader answers in place of a tree.
+#[derive(Clone, Copy, Debug, PartialEq, Eq)]
+pub enum ReadFault {
+    Refused(Refused),
+    NoMemory,
+}
+
+impl From<NoMemory> for ReadFault {
+    ghost use Rattle.std.specs.Prelude.{◌≡◌};
+    ghost use Rattle.rw_base.specs.declared.place.ReadFault.TheVariants as fault;
+
+    ghost from_gives = { λ _ e. e ≡ fault.NoMemory };
+
+    fn from(_: NoMemory) -> Self {
+        ReadFault::NoMemory
+    }
+}
+
+impl From<AllocError> for ReadFault {
+    ghost use Rattle.std.specs.Prelude.{◌≡◌};
+    ghost use Rattle.rw_base.specs.declared.place.ReadFault.TheVariants as fault;
+
+    ghost from_gives = { λ _ e. e ≡ fault.NoMemory };
+
+    fn from(_: AllocError) -> Self {
+        ReadFault::NoMemory
+    }
+}
+
+impl<T: Drop> From<AllocFailed<T>> for ReadFault {
+    ghost use Rattle.std.specs.Prelude.{◌≡◌};
+    ghost use Rattle.rw_base.specs.declared.place.ReadFault.TheVariants as fault;
+
+    ghost from_gives = { λ _ e. e ≡ fault.NoMemory };
+
+    fn from(_: AllocFailed<T>) -> Self {
+        ReadFault::NoMemory
+    }
+}
+
+// Whether the byte at k ends a line.
+fn ends_line(bytes: &[u8], k: usize) -> bool
+    requires { k < length bytes.now }
+    ensures { result ≡ ends_line bytes.now k }
+{
+    bytes[k] == b'\n' || (bytes[k] == b'\r' && !(k + 1 < bytes.len() && bytes[k + 1] == b'\n'))
+}
+
+// Whether a byte goes on with a character that began before it.
+fn goes_on(b: u8) -> bool
+    ensures { result ≡ goes_on b }
+{
+    128 <= b && b <= 191
+}
+
+/// The place of a byte, or of the end. Takes no memory.
+#[tactic(auto, using(crate::proofs::PlaceLemmas::steps), unfolding(crate::specs::Places::line_of, crate::specs::Places::column_of))]
+pub fn place_of(bytes: &[u8], at: usize) -> Place
+    requires inside { at ≤ length bytes.now }
+    requires size { at < u32.MAX }
+    ensures { result ≡ place_at bytes.now at }
+{
+    let mut line = 1;
+    let mut column = 1;
+    for k in 0..at {
+        if ends_line(bytes, k) {
+            line += 1;
+            column = 1;
+        } else if !goes_on(bytes[k]) {
+            column += 1;
+        }
+    }
+    Place {
+        line,
+        column,
+        byte: at as u32,
+    }
+}
+
+#[cfg(test)]
+mod tests {
+    use super::*;
+
+    #[test]
+    fn places_count_lines_and_characters(rt: HostRuntime) {
+        let mixed = b"a\r\nb\rc\n\xc3\xa9x";
+        let table = [
+            (0, 1, 1),
+            (1, 1, 2),
+            (2, 1, 3),
+            (3, 2, 1),
+            (5, 3, 1),
+            (7, 4, 1),
+            (8, 4, 2),
+            (9, 4, 2),
+            (10, 4, 3),
+        ];
+        for (at, line, column) in table {
+            assert!(rt; at <= mixed.len());
+            let place = place_of(mixed, at);
+            assert_eq!(rt; place.line, line, "line at {at}");
+            assert_eq!(rt; place.column, column, "column at {at}");
+        }
+        assert_eq!(rt; place_of(b"", 0).line, 1);
+    }
+}
