@@ -1,0 +1,4 @@
+pub mod PropertiesEdits
+pub use Rattle.rw_base.specs.Arena
+pub use Rattle.rw_base.specs.NewText
+pub use Rattle.properties_tree.specs.Layout

@@ -1,0 +1,106 @@
+-- One byte more of a text, as the reader's loops go over it.
+use Rattle.std.proofs.Common.{◌≡◌, ℕ, suc, ◌+◌, ◌-◌, ◌<◌, ◌≤◌, Bool, true, false, List, [], ◌∷◌, length, get_or, take, drop, refl, sym, ◌∙◌, ap, arith, inl, inr, length-drop, zero}
+use Rattle.std.specs.Prelude.{◌==◌, ◌||◌}
+use Rattle.std.specs.List.{list_any}
+use Rattle.std.proofs.lemmas.List.{at_drop_more, at_drop_all, take_rest}
+use Rattle.std.proofs.lemmas.Bool.{or_parts, or_from, cases_Bool, false≢true}
+use Rattle.properties_tree.specs.Characters.{is_line_end, is_blank, ends_key}
+use Rattle.properties_tree.specs.Lines.{leading_blanks, unblanked}
+use Rattle.properties_tree.specs.Entries.{key_length, begins_with_separator, separator_length}
+use Rattle.properties_tree.specs.Sizes.{text_length}
+
+module _ (s : List ℕ) (i : ℕ) (inside : i < length s) where
+  pub text_more : is_line_end (get_or s i 0) ≡ false → text_length (drop i s) ≡ suc (text_length (drop (i + 1) s))
+  text_more e = at_drop_more text_length s i 0 inside ∙ rw e refl
+
+  pub text_stops : is_line_end (get_or s i 0) ≡ true → text_length (drop i s) ≡ 0
+  text_stops e = at_drop_more text_length s i 0 inside ∙ rw e refl
+
+  pub blanks_more : is_blank (get_or s i 0) ≡ true → length (leading_blanks (drop i s)) ≡ suc (length (leading_blanks (drop (i + 1) s)))
+  blanks_more e = at_drop_more (λ (t : List ℕ). length (leading_blanks t)) s i 0 inside ∙ rw e refl
+
+  pub blanks_stop : is_blank (get_or s i 0) ≡ false → length (leading_blanks (drop i s)) ≡ 0
+  blanks_stop e = at_drop_more (λ (t : List ℕ). length (leading_blanks t)) s i 0 inside ∙ rw e refl
+
+pub text_past : (s : List ℕ) (i : ℕ) → length s ≤ i → text_length (drop i s) ≡ 0
+text_past s i h = at_drop_all text_length s i h
+
+pub blanks_past : (s : List ℕ) (i : ℕ) → length s ≤ i → length (leading_blanks (drop i s)) ≡ 0
+blanks_past s i h = at_drop_all (λ (t : List ℕ). length (leading_blanks t)) s i h
+
+abbrev pub has_backslash : List ℕ → Bool
+has_backslash s = list_any (λ b. b == 92) s
+
+none_at : (s : List ℕ) (i : ℕ) → i < length s → has_backslash s ≡ false → (get_or s i 0 == 92) ≡ false
+none_at [] i h none = absurd (omega arith)
+none_at (b ∷ rest) zero h none = (or_parts (b == 92) (has_backslash rest) none).0
+none_at (b ∷ rest) (suc i) h none = none_at rest i (omega arith) (or_parts (b == 92) (has_backslash rest) none).1
+
+pub none_in_drop : (n : ℕ) (s : List ℕ) → has_backslash s ≡ false → has_backslash (drop n s) ≡ false
+none_in_drop zero s none = none
+none_in_drop (suc n) [] none = none
+none_in_drop (suc n) (b ∷ rest) none = none_in_drop n rest (or_parts (b == 92) (has_backslash rest) none).1
+
+pub none_in_take : (n : ℕ) (s : List ℕ) → has_backslash s ≡ false → has_backslash (take n s) ≡ false
+none_in_take zero s none = refl
+none_in_take (suc n) [] none = none
+none_in_take (suc n) (b ∷ rest) none =
+    let parts = or_parts (b == 92) (has_backslash rest) none in
+    or_from (b == 92) (has_backslash (take n rest)) parts.0 (none_in_take n rest parts.1)
+
+module _ (s : List ℕ) (i : ℕ) (inside : i < length s) (none : has_backslash s ≡ false) where
+  pub key_more : ends_key (get_or s i 0) ≡ false → key_length (drop i s) ≡ suc (key_length (drop (i + 1) s))
+  key_more e = at_drop_more key_length s i 0 inside ∙ rw (none_at s i inside none, e) refl
+
+  pub key_stops : ends_key (get_or s i 0) ≡ true → key_length (drop i s) ≡ 0
+  key_stops e = at_drop_more key_length s i 0 inside ∙ rw (none_at s i inside none, e) refl
+
+pub key_past : (s : List ℕ) (i : ℕ) → length s ≤ i → key_length (drop i s) ≡ 0
+key_past s i h = at_drop_all key_length s i h
+
+pub unblanked_is : (s : List ℕ) → unblanked s ≡ drop (length (leading_blanks s)) s
+unblanked_is [] = refl
+unblanked_is (b ∷ rest) = elim (cases_Bool (is_blank b)) [ inl e ↦ rw e (unblanked_is rest) | inr e ↦ rw e refl ]
+
+pub blanks-le : (s : List ℕ) → length (leading_blanks s) ≤ length s
+blanks-le [] = omega arith
+blanks-le (b ∷ rest) = elim (cases_Bool (is_blank b)) [ inl e ↦ rw e (let more = blanks-le rest in omega arith) | inr e ↦ rw e (omega arith) ]
+
+pub leading_is : (s : List ℕ) → leading_blanks s ≡ take (length (leading_blanks s)) s
+leading_is [] = refl
+leading_is (b ∷ rest) = elim (cases_Bool (is_blank b)) [ inl e ↦ rw e (ap (λ t. b ∷ t) (leading_is rest)) | inr e ↦ rw e refl ]
+
+-- a text that begins with `=` or `:` has a byte
+pub some_separator : (s : List ℕ) → begins_with_separator s ≡ true → 0 < length s
+some_separator [] h = absurd (false≢true h)
+some_separator (b ∷ rest) h = omega arith
+
+module _ (s : List ℕ) where
+  pub marked : begins_with_separator (drop (length (leading_blanks s)) s) ≡ true
+      → separator_length s ≡ length (leading_blanks s) + 1 + length (leading_blanks (drop 1 (drop (length (leading_blanks s)) s)))
+  marked h = rw (unblanked_is s) (rw h refl)
+
+  pub unmarked : begins_with_separator (drop (length (leading_blanks s)) s) ≡ false → separator_length s ≡ length (leading_blanks s)
+  unmarked h = rw (unblanked_is s) (rw h refl)
+
+-- as the reader's slices show it
+pub marked_at : (s : List ℕ) (b r : ℕ) → b ≡ length (leading_blanks s) → begins_with_separator (take (length s - b) (drop b s)) ≡ true
+    → r ≡ length (leading_blanks (take (length (take (length s - b) (drop b s)) - 1) (drop 1 (take (length s - b) (drop b s))))) → b + 1 + r ≡ separator_length s
+marked_at s b r e mark behind =
+    let all : take (length s - b) (drop b s) ≡ drop b s = take_rest s b in
+    let here : begins_with_separator (drop (length (leading_blanks s)) s) ≡ true = rw (← e) (rw all at mark) in
+    let more : r ≡ length (leading_blanks (drop 1 (drop (length (leading_blanks s)) s))) = rw (← e) (rw (take_rest (drop b s) 1) at (rw all at behind)) in
+    rw (marked s here) (omega (arith, e, more))
+
+pub unmarked_at : (s : List ℕ) (b : ℕ) → b ≡ length (leading_blanks s) → begins_with_separator (take (length s - b) (drop b s)) ≡ false → b ≡ separator_length s
+unmarked_at s b e mark =
+    let here : begins_with_separator (drop (length (leading_blanks s)) s) ≡ false = rw (← e) (rw (take_rest s b) at mark) in
+    e ∙ sym (unmarked s here)
+
+pub ruleset over_key = (key_more, key_stops, key_past)
+
+pub ruleset over_separator = (some_separator, marked_at, unmarked_at)
+
+pub ruleset over_text = (text_more, text_stops, text_past)
+
+pub ruleset over_blanks = (blanks_more, blanks_stop, blanks_past)

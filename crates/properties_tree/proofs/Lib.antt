@@ -1,0 +1,9 @@
+pub mod FirstLine
+pub mod KeySpelling
+pub mod Lengths
+pub mod Made
+pub mod Plain
+pub mod Goes
+pub mod Whole
+pub mod Marked
+pub mod InTree

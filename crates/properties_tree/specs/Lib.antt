@@ -1,0 +1,9 @@
+pub mod Characters
+pub mod Lines
+pub mod Entries
+pub mod Decoding
+pub mod Spelling
+pub mod Layout
+pub mod Sizes
+pub mod Reading
+pub mod Refusal

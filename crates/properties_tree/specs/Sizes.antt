@@ -1,0 +1,60 @@
+-- How many bytes the parts of a line have, as the reader counts them.
+use Rattle.std.specs.Prelude.{◌≡◌, ℕ, suc, ◌+◌, ◌<◌, ◌≤◌, ◌==◌, Bool, List, [], ◌∷◌, ◌++◌, length, take, drop, if◌then◌else◌}
+use Rattle.properties_tree.specs.Characters.{is_line_end}
+use Rattle.properties_tree.specs.Lines.{begins_with_lf, lines_of}
+use Rattle.properties_tree.specs.Entries.{Entry, Piece, Properties, entries_of, logical_lines, raw}
+use Rattle.properties_tree.specs.declared.reader.Sizes.{Sizes}
+use Rattle.properties_tree.specs.declared.reader.Found.{Found}
+use Rattle.properties_tree.specs.declared.reader.Found.TheVariants as found
+
+-- the bytes before the first line end
+abbrev pub text_length : List ℕ → ℕ
+text_length [] = 0
+text_length (b ∷ rest) = if is_line_end b then 0 else suc (text_length rest)
+
+-- the bytes of the line end that a text begins with
+abbrev pub ending_length : List ℕ → ℕ
+ending_length [] = 0
+ending_length (b ∷ rest) =
+    if b == 10 then 1
+    else if b == 13 then (if begins_with_lf rest then 2 else 1)
+    else 0
+
+-- the entries of a text that begins with a line, where this prefix stands before it
+unfoldable pub entries_from : List ℕ → List ℕ → Properties
+entries_from before text = entries_of before (logical_lines (lines_of text))
+
+-- an entry more at the front
+abbrev pub with_entry : Entry → Properties → Properties
+with_entry e p = record { entries = e ∷ p.entries; rest = p.rest }
+
+-- the bytes of an entry with the blanks before it
+abbrev pub whole_size : Sizes → ℕ
+whole_size z = z.blanks + z.key + z.separator + z.value + z.ending
+
+-- A text begins with an entry whose parts have these sizes.
+pub record BeginsEntry (text : List ℕ) (z : Sizes) : Type 0 where
+  pub key : List Piece
+  pub separator : List Piece
+  pub value : List Piece
+  pub ending : List ℕ
+  pub key_size : length (raw key) ≡ z.key
+  pub separator_size : length (raw separator) ≡ z.separator
+  pub value_size : length (raw value) ≡ z.value
+  pub ending_size : length ending ≡ z.ending
+  pub some : 0 < whole_size z
+  pub inside : whole_size z ≤ length text
+  pub entries : (before : List ℕ) → entries_from before text
+      ≡ with_entry (record { prefix = before ++ take z.blanks text; key = key; separator = separator; value = value; ending = ending })
+      (entries_from [] (drop (whole_size z) text))
+
+-- A text begins with a line of this size that is passed over.
+pub record BeginsPassed (text : List ℕ) (size : ℕ) : Type 0 where
+  pub some : 0 < size
+  pub inside : size ≤ length text
+  pub entries : (before : List ℕ) → entries_from before text ≡ entries_from (before ++ take size text) (drop size text)
+
+-- what a text begins with
+abbrev pub Begins : List ℕ → Found → Type 0
+Begins text (found.Passed size) = BeginsPassed text size
+Begins text (found.Entry z) = BeginsEntry text z

@@ -1,0 +1,17 @@
+//! Properties files as trees, by the format of `java.util.Properties`.
+#![tactic(auto)]
+
+mod bytes;
+mod layout;
+mod option;
+mod reader;
+mod spelling;
+#[cfg(test)]
+mod tests;
+mod tree;
+
+pub use layout::{END, ENDING, ENTRY, FILE, KEY, SEPARATOR, VALUE};
+pub use option::PropertiesChangePropertyKey;
+pub use reader::{MOST_BYTES, read_properties};
+pub use spelling::spell_key;
+pub use tree::{entry_count, has_key, key_leaf, key_of};

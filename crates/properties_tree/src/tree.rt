@@ -1,0 +1,64 @@
+// What the tree of a properties file says of its entries.
+ghost use Rattle.std.specs.Prelude.{◌≡◌, ◌==◌, ◌<◌, ◌+◌, ◌*◌, ◌↔◌, IsTrue, IfOk, length, false};
+ghost use Rattle.std.specs.List.{list_any};
+ghost use Rattle.properties_tree.specs.Entries.{properties_of};
+ghost use Rattle.properties_tree.specs.Decoding.{key_text, entry_at};
+ghost use Rattle.properties_tree.specs.Layout.{tree_of, key_leaf_of};
+
+use rw_base::{Mem, NodeId, Tree};
+use std::alloc::Global;
+
+/// How many entries a file has, whose tree this is. They are the nodes before this number, in the file's order.
+#[tactic(auto, using(crate::proofs::InTree::in_tree))]
+pub fn entry_count(tree: &Tree, bytes: &[u8]) -> u32
+    requires { tree.now ≡ tree_of bytes.now }
+    ensures count { result ≡ length (properties_of bytes.now).entries }
+    ensures leaves { length tree.now.leaves ≡ 4 * result + 1 }
+{
+    let _ = bytes;
+    tree.root().0
+}
+
+/// The number of the leaf that is an entry's key.
+#[tactic(auto, using(crate::proofs::InTree::in_tree))]
+pub fn key_leaf(tree: &Tree, bytes: &[u8], entry: NodeId) -> u32
+    requires tree { tree.now ≡ tree_of bytes.now }
+    requires there { entry.0 < length (properties_of bytes.now).entries }
+    ensures number { result ≡ key_leaf_of entry.0 }
+    ensures inside { result < length tree.now.leaves }
+{
+    let _ = bytes;
+    tree.leaves_of(entry).0
+}
+
+#[tactic(auto, using(crate::proofs::InTree::in_tree))]
+fn key_bytes<'b>(tree: &Tree, bytes: &'b [u8], entry: NodeId) -> &'b [u8]
+    requires tree { tree.now ≡ tree_of bytes.now }
+    requires there { entry.0 < length (properties_of bytes.now).entries }
+    requires no_backslash { list_any (λ b. b == 92) bytes.now ≡ false }
+    ensures { result.now ≡ key_text (entry_at bytes.now entry.0) }
+{
+    tree.text(bytes, key_leaf(tree, bytes, entry))
+}
+
+/// The key of an entry, decoded: `\t`, `\n`, `\r` and `\f` are control characters, `\u` with four hex digits a UTF-16
+/// code unit, and another backslash is dropped. (The documentation of `java.util.Properties`, Java SE 8.)
+pub fn key_of(alloc: Global, tree: &Tree, bytes: &[u8], entry: NodeId) -> Mem<Vec<u8>>
+    requires tree { tree.now ≡ tree_of bytes.now }
+    requires there { entry.0 < length (properties_of bytes.now).entries }
+    requires no_backslash { list_any (λ b. b == 92) bytes.now ≡ false }
+    ensures { IfOk result (λ key. key.items ≡ key_text (entry_at bytes.now entry.0)) }
+{
+    Ok(Vec::from_slice(alloc, key_bytes(tree, bytes, entry))?)
+}
+
+/// Whether an entry's key, decoded, is this one.
+pub fn has_key(alloc: Global, tree: &Tree, bytes: &[u8], entry: NodeId, key: &[u8]) -> Mem<bool>
+    requires tree { tree.now ≡ tree_of bytes.now }
+    requires there { entry.0 < length (properties_of bytes.now).entries }
+    requires no_backslash { list_any (λ b. b == 92) bytes.now ≡ false }
+    ensures { IfOk result (λ same. IsTrue same ↔ (key_text (entry_at bytes.now entry.0) ≡ key.now)) }
+{
+    let _ = alloc;
+    Ok(key_bytes(tree, bytes, entry) == key)
+}

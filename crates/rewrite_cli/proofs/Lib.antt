@@ -1,0 +1,4 @@
+pub mod FourWords
+pub mod Refusals
+pub mod After
+pub mod Outcomes

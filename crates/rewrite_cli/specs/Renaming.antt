@@ -1,0 +1,37 @@
+-- What a run makes of a file.
+use Rattle.std.specs.Prelude.{ℕ, Bool, true, false, ◌||◌, ◌&&◌, ◌==◌, nat_lt, List, length, Option, None, Some, is_none, unwrap_or, if◌then◌else◌}
+use Rattle.std.specs.List.{list_any}
+use Rattle.rw_base.specs.NewText.{new_text}
+use Rattle.properties_tree.specs.declared.option.PropertiesChangePropertyKey.{PropertiesChangePropertyKey}
+use Rattle.properties_tree.specs.declared.reader.TheConstants.{MOST_BYTES}
+use Rattle.properties_tree.specs.Layout.{tree_of}
+use Rattle.conf_recipes.specs.PropertiesEdits.{edits_of}
+use Rattle.rewrite_cli.specs.Paths.{is_properties}
+
+-- the options of the recipe that renames one key to another
+abbrev pub options_of : List ℕ → List ℕ → PropertiesChangePropertyKey
+options_of old new = record { old_property_key = old; new_property_key = new }
+
+-- the bytes of a properties file with the recipe's edits
+unfoldable pub renamed : List ℕ → List ℕ → List ℕ → List ℕ
+renamed old new bytes = new_text (tree_of bytes) bytes (edits_of bytes (options_of old new))
+
+-- whether a text has a backslash
+abbrev pub has_backslash : List ℕ → Bool
+has_backslash bytes = list_any (λ b. b == 92) bytes
+
+-- The new bytes of a properties file, none where it is refused: where it is too large, before or after, and until
+-- escapes are read where it has a backslash.
+unfoldable pub new_bytes : List ℕ → List ℕ → List ℕ → Option (List ℕ)
+new_bytes old new bytes =
+    if nat_lt MOST_BYTES (length bytes) || has_backslash bytes || nat_lt MOST_BYTES (length (renamed old new bytes))
+    then None
+    else Some (renamed old new bytes)
+
+-- whether a run refuses the file of this path and these bytes
+unfoldable pub is_refused : List ℕ → List ℕ → List ℕ → List ℕ → Bool
+is_refused old new path bytes = is_properties path && is_none (new_bytes old new bytes)
+
+-- the bytes that a file has after a run: a file that is refused, or is no properties file, keeps its own
+unfoldable pub bytes_after : List ℕ → List ℕ → List ℕ → List ℕ → List ℕ
+bytes_after old new path bytes = if is_properties path then unwrap_or (new_bytes old new bytes) bytes else bytes

@@ -1,0 +1,4 @@
+pub mod Maps
+pub mod Order
+pub mod Rows
+pub mod Searched

@@ -1,0 +1,8 @@
+use Rattle.std.proofs.Common.{◌≤◌, vec_len}
+use Rattle.rw_host.proofs.listing.list_one.Given as goal
+
+abbrev pub invariant-loop-entry : goal.invariant-loop-entry
+invariant-loop-entry g l =
+    (goal.iterator-loop-entry g).can_next l.entry-iterator
+    × (goal.iterator-loop-entry g).is_finite l.entry-iterator
+    × (vec_len l.found.paths ≤ l.most)

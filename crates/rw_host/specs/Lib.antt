@@ -1,0 +1,5 @@
+pub mod Files
+pub mod Path
+pub mod Rows
+pub mod Sink
+pub mod Table

@@ -1,0 +1,261 @@
+// A store over a real folder.
+ghost use Rattle.std.specs.Prelude.{◌≡◌, ◌≢◌, ◌≤◌, ◌^◌, false, IfOk, IfSome, OnErr, vec_len};
+ghost use Rattle.std.specs.FinMap as map;
+ghost use Rattle.rw_host.specs.Files.{Rose};
+
+use crate::listing::listed;
+use crate::path::is_path;
+use crate::unsynced::Unsynced;
+use crate::{Failed, PathText, Store, StoreFault};
+use rw_base::Mem;
+use std::alloc::{AllocError, Global};
+use std::fs::File;
+use std::io::{ErrorKind, Read, Write};
+use std::rt::Files;
+use std::{fs, io};
+
+// How many bytes the buffer for reads holds at first, and the most that it keeps between two reads.
+const LEAST_BUFFER: usize = 64 * 1024;
+
+const MOST_KEPT: usize = 4 * 1024 * 1024;
+
+/// The real folder below a root. It tells no files, since others may change them.
+///
+/// - A text that isn't a path names no file: a read gives `None`, and a removal is `Ok`.
+/// - A folder or a file that the system doesn't give is a fault, and so is a folder where a file is read. Where the
+///   system refuses memory, `list` and `read` answer `NoMemory`, which raises no count.
+/// - A write makes the folders that it needs. `sync` syncs each file that was written and each folder in which one
+///   was written or removed since the last sync that succeeded.
+#[derive(Drop)]
+pub struct FolderStore<R: Files> {
+    rt: R,
+    alloc: Global,
+    root: String,
+    // What a read puts the bytes into before it knows how many there are.
+    buffer: Vec<u8>,
+    unsynced: Unsynced,
+    read_faults: u64,
+    write_faults: u64,
+}
+
+impl<R: Files> FolderStore<R> {
+    /// The store over the folder at `root`, which is the current folder where the text is empty.
+    pub fn new(rt: R, alloc: Global, root: &str) -> Mem<FolderStore<R>>
+    where
+        R: Drop,
+    {
+        let root = String::from_str(alloc, if root.is_empty() { "." } else { root })?;
+        Ok(FolderStore {
+            rt,
+            alloc,
+            root,
+            buffer: Vec::new(alloc),
+            unsynced: Unsynced::new(alloc),
+            read_faults: 0,
+            write_faults: 0,
+        })
+    }
+}
+
+// The path of what has the name `path` in `folder`.
+pub(crate) fn joined(alloc: Global, folder: &str, path: &str) -> Result<String, AllocError> {
+    let len = folder.len().saturating_add(path.len()).saturating_add(1);
+    let mut full = String::with_capacity(alloc, len)?;
+    full.push_str(folder)?;
+    full.push('/')?;
+    full.push_str(path)?;
+    Ok(full)
+}
+
+pub(crate) fn fault_of(e: &io::Error) -> StoreFault
+    ensures { result ≢ StoreFault.TooMany }
+{
+    if e.kind() == ErrorKind::OutOfMemory {
+        StoreFault::NoMemory
+    } else {
+        StoreFault::Failed
+    }
+}
+
+// Whether the error says that no file has the path.
+fn is_absent(e: &io::Error) -> bool {
+    matches!(e.kind(), ErrorKind::NotFound | ErrorKind::NotADirectory)
+}
+
+// Reads into the front of the buffer up to the file's end, or until there are `most` bytes, and returns how many
+// there are.
+fn fill<F: Read>(file: &mut F, buffer: &mut Vec<u8>, most: usize) -> io::Result<usize>
+    ensures { IfOk result (λ filled. filled ≤ vec_len buffer.new) }
+{
+    let mut filled = 0;
+    for _ in 0..u64::MAX {
+        if filled >= most {
+            break;
+        }
+        if filled >= buffer.len() {
+            buffer.resize(filled.saturating_mul(2).max(LEAST_BUFFER), 0)?;
+        }
+        match file.read(&mut buffer[filled..]) {
+            Ok(0) => break,
+            Ok(n) => filled += n,
+            Err(e) if e.kind() == ErrorKind::Interrupted => {}
+            Err(e) => return Err(e),
+        }
+    }
+    Ok(filled)
+}
+
+// The first bytes of the file at this place, or `None` where there is none.
+fn read_file<R: Files>(
+    rt: &R,
+    alloc: Global,
+    buffer: &mut Vec<u8>,
+    path: &str,
+    most: u32,
+) -> io::Result<Option<Vec<u8>>>
+    ensures { IfOk result (λ found. IfSome found (λ v. vec_len v ≤ most)) }
+{
+    let mut file = match File::open(rt, path) {
+        Ok(file) => file,
+        Err(e) if is_absent(&e) => return Ok(None),
+        Err(e) => return Err(e),
+    };
+    let most = most as usize;
+    // One byte is asked for at least, since the system opens a folder and refuses to read it.
+    let filled = fill(&mut file, buffer, most.max(1))?;
+    let bytes = Vec::from_slice(alloc, &buffer[..filled.min(most)])?;
+    Ok(Some(bytes))
+}
+
+// Writes the whole file, and makes the folders that it needs. It is noted before it is touched, so that a file that is
+// written in part is synced too.
+fn write_file<R: Files>(
+    rt: &R,
+    unsynced: &mut Unsynced,
+    root: &str,
+    full: &str,
+    bytes: &[u8],
+) -> io::Result<()> {
+    unsynced.note_file(full)?;
+    let mut file = match File::create(rt, full) {
+        Err(e) if e.kind() == ErrorKind::NotFound => {
+            unsynced.note_folders_above(root, full)?;
+            if let Some((folder, _)) = full.rsplit_once('/') {
+                fs::create_dir_all(rt, folder)?;
+            }
+            File::create(rt, full)?
+        }
+        made => made?,
+    };
+    file.write_all(bytes)
+}
+
+fn remove_file<R: Files>(rt: &R, unsynced: &mut Unsynced, full: &str) -> io::Result<()> {
+    unsynced.note_folder_of(full)?;
+    match fs::remove_file(rt, full) {
+        Err(e) if is_absent(&e) => Ok(()),
+        done => done,
+    }
+}
+
+impl<R: Files> FolderStore<R> {
+    fn try_write(&mut self, path: &str, bytes: &[u8]) -> io::Result<()>
+        ensures reads { self.new.read_faults ≡ self.old.read_faults }
+        ensures writes { self.new.write_faults ≡ self.old.write_faults }
+    {
+        let root = self.root.as_str();
+        let full = joined(self.alloc, root, path)?;
+        write_file(&self.rt, &mut self.unsynced, root, full.as_str(), bytes)
+    }
+
+    fn try_remove(&mut self, path: &str) -> io::Result<()>
+        ensures reads { self.new.read_faults ≡ self.old.read_faults }
+        ensures writes { self.new.write_faults ≡ self.old.write_faults }
+    {
+        if !is_path(path) {
+            return Ok(());
+        }
+        let full = joined(self.alloc, self.root.as_str(), path)?;
+        remove_file(&self.rt, &mut self.unsynced, full.as_str())
+    }
+
+    // Counts a call that failed.
+    fn counted(&mut self, done: io::Result<()>) -> Result<(), Failed>
+        ensures reads { self.new.read_faults ≡ self.old.read_faults }
+        ensures rose { OnErr result (Rose self.old.write_faults self.new.write_faults) }
+        ensures count { self.old.write_faults ≤ self.new.write_faults }
+    {
+        match done {
+            Ok(()) => Ok(()),
+            Err(_) => {
+                self.write_faults = self.write_faults.saturating_add(1);
+                Err(Failed)
+            }
+        }
+    }
+}
+
+impl<R: Files + AllocGlobal + Clone + Drop> Store for FolderStore<R> {
+    ghost tells_files = { false };
+
+    ghost files = { λ _. map.empty };
+
+    ghost spare = { λ _. 2 ^ 64 };
+
+    ghost read_faults = { λ s. s.read_faults };
+
+    ghost write_faults = { λ s. s.write_faults };
+
+    fn list(&mut self, alloc: Global, most: u32) -> Result<Vec<PathText>, StoreFault> {
+        let listed = listed(&self.rt, alloc, self.root.as_str(), most);
+        if let Err(StoreFault::Failed) = &listed {
+            self.read_faults = self.read_faults.saturating_add(1);
+        }
+        listed
+    }
+
+    fn read(
+        &mut self,
+        alloc: Global,
+        path: &str,
+        most: u32,
+    ) -> Result<Option<Vec<u8>>, StoreFault> {
+        if !is_path(path) {
+            return Ok(None);
+        }
+        let full = joined(alloc, self.root.as_str(), path)?;
+        let found = read_file(&self.rt, alloc, &mut self.buffer, full.as_str(), most);
+        if self.buffer.len() > MOST_KEPT {
+            self.buffer = Vec::new(self.alloc);
+        }
+        match found {
+            Ok(found) => Ok(found),
+            Err(e) => {
+                let fault = fault_of(&e);
+                if fault == StoreFault::Failed {
+                    self.read_faults = self.read_faults.saturating_add(1);
+                }
+                Err(fault)
+            }
+        }
+    }
+
+    fn reserve(&mut self, _paths: u32) -> Result<(), StoreFault> {
+        Ok(())
+    }
+
+    fn write(&mut self, path: PathText, bytes: Vec<u8>) -> Result<(), Failed> {
+        let done = self.try_write(path.as_str(), &bytes);
+        self.counted(done)
+    }
+
+    fn remove(&mut self, path: &str) -> Result<(), Failed> {
+        let done = self.try_remove(path);
+        self.counted(done)
+    }
+
+    fn sync(&mut self) -> Result<(), Failed> {
+        let done = self.unsynced.sync(&self.rt);
+        self.counted(done)
+    }
+}

@@ -1,0 +1,88 @@
+// A store in memory that never fails.
+ghost use Rattle.std.specs.Prelude.{◌≡◌, IfOk, true};
+ghost use Rattle.std.specs.FinMap as map;
+ghost use Rattle.rw_host.specs.Table.{IsEachOnce, entries_of};
+
+use crate::table::{Table, first_bytes};
+use crate::{Failed, PathText, Store, StoreFault};
+use rw_base::Mem;
+use std::alloc::Global;
+use std::marker::Model;
+
+/// Files in memory. It tells its files, and no call fails but for want of memory. Contracts see the files, and for
+/// how many writes there is room.
+#[derive(Debug, Drop)]
+pub struct SteadyStore {
+    table: Table,
+}
+
+impl Model for SteadyStore {
+    ghost use Rattle.rw_host.specs.Table.{Held, held_code};
+
+    ghost Value = { Held };
+
+    ghost coded = { held_code };
+
+    ghost view = { λ s. s.table };
+}
+
+impl SteadyStore {
+    /// The store of these files, in any order. Needs each path once.
+    pub fn new(alloc: Global, files: Vec<(PathText, Vec<u8>)>) -> Mem<SteadyStore>
+        requires each_once { IsEachOnce files.items }
+        ensures files { IfOk result (λ store. store.files ≡ map.from_entries (entries_of files.items)) }
+    {
+        let table = Table::new(alloc, files)?;
+        Ok(SteadyStore { table })
+    }
+}
+
+impl Store for SteadyStore {
+    ghost tells_files = { true };
+
+    ghost files = { λ s. s.files };
+
+    ghost spare = { λ s. s.spare };
+
+    ghost read_faults = { λ _. 0 };
+
+    ghost write_faults = { λ _. 0 };
+
+    fn list(&mut self, alloc: Global, most: u32) -> Result<Vec<PathText>, StoreFault> {
+        if self.table.len() > most as usize {
+            return Err(StoreFault::TooMany);
+        }
+        Ok(self.table.paths(alloc)?)
+    }
+
+    fn read(
+        &mut self,
+        alloc: Global,
+        path: &str,
+        most: u32,
+    ) -> Result<Option<Vec<u8>>, StoreFault> {
+        let Some(bytes) = self.table.get(path) else {
+            return Ok(None);
+        };
+        let first = Vec::from_slice(alloc, first_bytes(bytes, most))?;
+        Ok(Some(first))
+    }
+
+    fn reserve(&mut self, paths: u32) -> Result<(), StoreFault> {
+        Ok(self.table.reserve(paths as usize)?)
+    }
+
+    fn write(&mut self, path: PathText, bytes: Vec<u8>) -> Result<(), Failed> {
+        self.table.put(path, bytes);
+        Ok(())
+    }
+
+    fn remove(&mut self, path: &str) -> Result<(), Failed> {
+        self.table.take(path);
+        Ok(())
+    }
+
+    fn sync(&mut self) -> Result<(), Failed> {
+        Ok(())
+    }
+}

@@ -1,0 +1,5 @@
+package shop;
+
+public class Mail {
+    static final String HOST = "shop.mail.host";
+}
