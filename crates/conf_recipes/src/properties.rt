@@ -1,6 +1,5 @@
 // Recipes on properties files.
-ghost use Rattle.std.specs.Prelude.{◌≡◌, ◌==◌, false, IfOk, length};
-ghost use Rattle.std.specs.List.{list_any};
+ghost use Rattle.std.specs.Prelude.{◌≡◌, IfOk, length};
 ghost use Rattle.rw_base.specs.NewText.{AreLeafEdits};
 ghost use Rattle.properties_tree.specs.Layout.{tree_of};
 ghost use Rattle.conf_recipes.specs.PropertiesEdits.{key_edit, edits_of};
@@ -31,19 +30,49 @@ pub fn edits_in_properties(
     bytes: &[u8],
     options: &PropertiesChangePropertyKey,
 ) -> Mem<Vec<Edit>>
-    requires tree { tree.now ≡ tree_of bytes.now }
-    requires no_backslash { list_any (λ b. b == 92) bytes.now ≡ false }
+    requires { tree.now ≡ tree_of bytes.now }
     ensures edits { IfOk result (λ edits. edits.items ≡ edits_of bytes.now options.now) }
     ensures leaves { IfOk result (λ edits. AreLeafEdits (length tree.now.leaves) edits.items) }
 {
     let mut edits = Vec::new(alloc);
     for n in 0..entry_count(tree, bytes) {
         let entry = NodeId(n);
-        let same = has_key(alloc, tree, bytes, entry, options.old_property_key.as_slice())?;
+        let same = has_key(
+            alloc,
+            tree,
+            bytes,
+            entry,
+            options.old_property_key.as_slice(),
+        )?;
         if same {
             let leaf = key_leaf(tree, bytes, entry);
             edits.push(key_edit(alloc, leaf, options.new_property_key.as_slice())?)?;
         }
     }
     Ok(edits)
+}
+
+#[cfg(test)]
+mod tests {
+    use super::*;
+    use properties_tree::read_properties;
+    use rw_base::rearranged;
+    use std::test::Fail;
+
+    #[test]
+    fn each_entry_with_the_key_is_edited(rt: HostRuntime) -> Result<(), Fail> {
+        let bytes = b"a=1\n#a\n \\a : 2\nab=3\na\\\n b=4\n\\u0061";
+        let options = PropertiesChangePropertyKey {
+            old_property_key: Text::from_slice(rt.alloc(), b"a")?,
+            new_property_key: Text::from_slice(rt.alloc(), b"x=")?,
+        };
+        let Ok(tree) = read_properties(rt.alloc(), bytes) else {
+            return Err(Fail::new("refused"));
+        };
+        let edits = edits_in_properties(rt.alloc(), &tree, bytes, &options)?;
+        assert_eq!(rt; edits.len(), 3);
+        let text = rearranged(rt.alloc(), &tree, bytes, &edits)?;
+        assert_eq!(rt; text.as_slice(), b"x\\==1\n#a\n x\\= : 2\nab=3\na\\\n b=4\nx\\=".as_slice());
+        Ok(())
+    }
 }

@@ -58,7 +58,7 @@ first_line (b ∷ rest) =
     ]
 
 -- where no line end stands behind a line, nothing does
-some_ending : (b : ℕ) (rest : List ℕ) → is_line_end b ≡ true → ending_length (b ∷ rest) ≡ 0 → ⊥
+pub some_ending : (b : ℕ) (rest : List ℕ) → is_line_end b ≡ true → ending_length (b ∷ rest) ≡ 0 → ⊥
 some_ending b rest e none =
     elim (cases_Bool (b == 10)) [
       | inl lf ↦ absurd (let h = rw lf at none in omega (arith, h))

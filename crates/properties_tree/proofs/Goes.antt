@@ -147,7 +147,7 @@ pub none_read : (bytes : List ℕ) (leaves : List Leaf) (nodes : List NodeRow) �
 none_read bytes leaves nodes no_leaf no_node =
     subst (λ (ns : List NodeRow). IsRead bytes leaves ns 0 0) (sym no_node) (subst (λ (ls : List Leaf). IsRead bytes ls [] 0 0) (sym no_leaf) (first_read bytes))
 
-entries-none : (before : List ℕ) → entries_from before [] ≡ record { entries = []; rest = before }
+pub entries-none : (before : List ℕ) → entries_from before [] ≡ record { entries = []; rest = before }
 unfolding entries_from entries_of grouped lines_of
 entries-none before = ap (λ (r : List ℕ). record { entries = []; rest = r }) (append-nil before)
 
@@ -202,7 +202,4 @@ module _ (bytes : List ℕ) (leaves : List Leaf) (nodes : List NodeRow) (from : 
         let count = all_counted in
         subst IsTree (sym tree_is) (tree_made es (properties_of bytes).rest (omega arith))
 
-pub none_left : (bytes : List ℕ) (at : ℕ) → has_backslash bytes ≡ false → has_backslash (take (length bytes - at) (drop at bytes)) ≡ false
-none_left bytes at none = rw (take_rest bytes at) (none_in_drop at bytes none)
-
-pub ruleset over_lines = (passed_read, entry_read, none_left)
+pub ruleset over_lines = (passed_read, entry_read)

@@ -1,15 +1,16 @@
 -- What a file's tree has of its entries.
 use Rattle.std.proofs.Common.{◌≡◌, ℕ, suc, ◌+◌, ◌-◌, ◌*◌, ◌<◌, ◌≤◌, ◌^◌, Bool, true, false, List, length, take, drop, refl, sym, ◌∙◌, ap, subst, arith}
 use Rattle.std.specs.Prelude.{slice_range}
-use Rattle.rw_base.specs.Arena.{Arena, first_of, end_of, leaf_at, text_of}
+use Rattle.rw_base.specs.Arena.{Arena, first_of, past_of, end_of, leaf_at, text_of}
 use Rattle.properties_tree.specs.Entries.{properties_of, raw}
 use Rattle.properties_tree.specs.Decoding.{key_text, entry_at}
 use Rattle.properties_tree.specs.Layout.{tree_of}
 use Rattle.rw_base.specs.declared.tree.NodeRow.{NodeRow}
 use Rattle.properties_tree.proofs.Made.{entry_at as entry_at_row}
 use Rattle.properties_tree.proofs.Lengths.{has_backslash, none_in_take, none_in_drop}
-use Rattle.properties_tree.proofs.Whole.{key_leaf_text, end_of-tree_of, leaves-tree_of, nodes-tree_of}
+use Rattle.properties_tree.proofs.Whole.{key_leaf_text, value_leaf_text, end_of-tree_of, leaves-tree_of, nodes-tree_of}
 use Rattle.properties_tree.proofs.Marked.{plain_key}
+use Rattle.properties_tree.proofs.Alone.{key_said, value_said}
 
 module _ (t : Arena) (bytes : List ℕ) (same : t ≡ tree_of bytes) where
   pub leaves_are : length t.leaves ≡ 4 * length (properties_of bytes).entries + 1
@@ -26,16 +27,19 @@ module _ (t : Arena) (bytes : List ℕ) (same : t ≡ tree_of bytes) where
   unfolding tree_of
   first_is n there = ap (λ (a : Arena). first_of a.nodes n) same ∙ ap (λ (r : NodeRow). r.first) (entry_at_row (properties_of bytes).entries n there)
 
+  pub past_is : (n : ℕ) → n < length (properties_of bytes).entries → past_of t.nodes n ≡ 4 * n + 4
+  unfolding tree_of
+  past_is n there = ap (λ (a : Arena). past_of a.nodes n) same ∙ ap (λ (r : NodeRow). r.past) (entry_at_row (properties_of bytes).entries n there)
+
   pub bytes_are : length bytes ≡ end_of t
   bytes_are = sym (ap end_of same ∙ end_of-tree_of bytes)
 
   pub key_is : (n : ℕ) → n < length (properties_of bytes).entries → text_of bytes (leaf_at t.leaves (4 * n)) ≡ raw (entry_at bytes n).key
   key_is n there = ap (λ (a : Arena). text_of bytes (leaf_at a.leaves (4 * n))) same ∙ key_leaf_text bytes n there
 
-  pub key_says : (n : ℕ) → n < length (properties_of bytes).entries → has_backslash bytes ≡ false → text_of bytes (leaf_at t.leaves (4 * n)) ≡ key_text (entry_at bytes n)
-  key_says n there none =
-      let raw_is = key_is n there in
-      let leaf = leaf_at t.leaves (4 * n) in
-      raw_is ∙ sym (plain_key bytes n (ap has_backslash (sym raw_is) ∙ none_in_take (leaf.to - leaf.from) (drop leaf.from bytes) (none_in_drop leaf.from bytes none)))
+  pub value_is : (n : ℕ) → n < length (properties_of bytes).entries → text_of bytes (leaf_at t.leaves (4 * n + 2)) ≡ raw (entry_at bytes n).value
+  value_is n there = ap (λ (a : Arena). text_of bytes (leaf_at a.leaves (4 * n + 2))) same ∙ value_leaf_text bytes n there
 
-pub ruleset in_tree = (leaves_are, nodes_are, root_is, first_is, bytes_are, key_says)
+pub ruleset in_tree = (leaves_are, nodes_are, root_is, first_is, past_is, bytes_are, key_is, value_is)
+
+pub ruleset what_is_said = (key_said, value_said, plain_key)

@@ -31,11 +31,6 @@ blanks_past s i h = at_drop_all (λ (t : List ℕ). length (leading_blanks t)) s
 abbrev pub has_backslash : List ℕ → Bool
 has_backslash s = list_any (λ b. b == 92) s
 
-none_at : (s : List ℕ) (i : ℕ) → i < length s → has_backslash s ≡ false → (get_or s i 0 == 92) ≡ false
-none_at [] i h none = absurd (omega arith)
-none_at (b ∷ rest) zero h none = (or_parts (b == 92) (has_backslash rest) none).0
-none_at (b ∷ rest) (suc i) h none = none_at rest i (omega arith) (or_parts (b == 92) (has_backslash rest) none).1
-
 pub none_in_drop : (n : ℕ) (s : List ℕ) → has_backslash s ≡ false → has_backslash (drop n s) ≡ false
 none_in_drop zero s none = none
 none_in_drop (suc n) [] none = none
@@ -48,16 +43,6 @@ none_in_take (suc n) (b ∷ rest) none =
     let parts = or_parts (b == 92) (has_backslash rest) none in
     or_from (b == 92) (has_backslash (take n rest)) parts.0 (none_in_take n rest parts.1)
 
-module _ (s : List ℕ) (i : ℕ) (inside : i < length s) (none : has_backslash s ≡ false) where
-  pub key_more : ends_key (get_or s i 0) ≡ false → key_length (drop i s) ≡ suc (key_length (drop (i + 1) s))
-  key_more e = at_drop_more key_length s i 0 inside ∙ rw (none_at s i inside none, e) refl
-
-  pub key_stops : ends_key (get_or s i 0) ≡ true → key_length (drop i s) ≡ 0
-  key_stops e = at_drop_more key_length s i 0 inside ∙ rw (none_at s i inside none, e) refl
-
-pub key_past : (s : List ℕ) (i : ℕ) → length s ≤ i → key_length (drop i s) ≡ 0
-key_past s i h = at_drop_all key_length s i h
-
 pub unblanked_is : (s : List ℕ) → unblanked s ≡ drop (length (leading_blanks s)) s
 unblanked_is [] = refl
 unblanked_is (b ∷ rest) = elim (cases_Bool (is_blank b)) [ inl e ↦ rw e (unblanked_is rest) | inr e ↦ rw e refl ]
@@ -69,37 +54,6 @@ blanks-le (b ∷ rest) = elim (cases_Bool (is_blank b)) [ inl e ↦ rw e (let mo
 pub leading_is : (s : List ℕ) → leading_blanks s ≡ take (length (leading_blanks s)) s
 leading_is [] = refl
 leading_is (b ∷ rest) = elim (cases_Bool (is_blank b)) [ inl e ↦ rw e (ap (λ t. b ∷ t) (leading_is rest)) | inr e ↦ rw e refl ]
-
--- a text that begins with `=` or `:` has a byte
-pub some_separator : (s : List ℕ) → begins_with_separator s ≡ true → 0 < length s
-some_separator [] h = absurd (false≢true h)
-some_separator (b ∷ rest) h = omega arith
-
-module _ (s : List ℕ) where
-  pub marked : begins_with_separator (drop (length (leading_blanks s)) s) ≡ true
-      → separator_length s ≡ length (leading_blanks s) + 1 + length (leading_blanks (drop 1 (drop (length (leading_blanks s)) s)))
-  marked h = rw (unblanked_is s) (rw h refl)
-
-  pub unmarked : begins_with_separator (drop (length (leading_blanks s)) s) ≡ false → separator_length s ≡ length (leading_blanks s)
-  unmarked h = rw (unblanked_is s) (rw h refl)
-
--- as the reader's slices show it
-pub marked_at : (s : List ℕ) (b r : ℕ) → b ≡ length (leading_blanks s) → begins_with_separator (take (length s - b) (drop b s)) ≡ true
-    → r ≡ length (leading_blanks (take (length (take (length s - b) (drop b s)) - 1) (drop 1 (take (length s - b) (drop b s))))) → b + 1 + r ≡ separator_length s
-marked_at s b r e mark behind =
-    let all : take (length s - b) (drop b s) ≡ drop b s = take_rest s b in
-    let here : begins_with_separator (drop (length (leading_blanks s)) s) ≡ true = rw (← e) (rw all at mark) in
-    let more : r ≡ length (leading_blanks (drop 1 (drop (length (leading_blanks s)) s))) = rw (← e) (rw (take_rest (drop b s) 1) at (rw all at behind)) in
-    rw (marked s here) (omega (arith, e, more))
-
-pub unmarked_at : (s : List ℕ) (b : ℕ) → b ≡ length (leading_blanks s) → begins_with_separator (take (length s - b) (drop b s)) ≡ false → b ≡ separator_length s
-unmarked_at s b e mark =
-    let here : begins_with_separator (drop (length (leading_blanks s)) s) ≡ false = rw (← e) (rw (take_rest s b) at mark) in
-    e ∙ sym (unmarked s here)
-
-pub ruleset over_key = (key_more, key_stops, key_past)
-
-pub ruleset over_separator = (some_separator, marked_at, unmarked_at)
 
 pub ruleset over_text = (text_more, text_stops, text_past)
 

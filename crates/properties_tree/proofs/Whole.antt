@@ -47,7 +47,7 @@ whole-lines_of (b ∷ rest) =
 
 -- ---- lines that go on
 
-one_less : (n : ℕ) → suc (suc n) - 1 ≡ suc (suc n - 1)
+pub one_less : (n : ℕ) → suc (suc n) - 1 ≡ suc (suc n - 1)
 one_less n = omega arith
 
 -- a text that goes on ends in a backslash
@@ -231,12 +231,38 @@ key_at bytes before at (e ∷ es) rest (suc k) h long all =
     (length-append before (whole_entry e) ∙ (ap (λ n. n + length (whole_entry e)) long ∙ sym (entry_end-is at e)))
     (all ∙ sym (append_assoc before (whole_entry e) (whole_of es rest)))
 
+-- the value stands behind the key and the separator
+value_at : (bytes before : List ℕ) (at : ℕ) (es : List Entry) (rest : List ℕ) (k : ℕ) → k < length es → length before ≡ at → bytes ≡ before ++ whole_of es rest
+    → text_of bytes (leaf_at (leaves_from at es rest) (4 * k + 2)) ≡ raw (get_or es k no_entry).value
+unfolding leaf_at
+value_at bytes before at [] rest k h long all = absurd (omega arith)
+value_at bytes before at (e ∷ es) rest zero h long all =
+    let front = ((before ++ e.prefix) ++ raw e.key) ++ raw e.separator in
+    let size : length front ≡ at + length e.prefix + length (raw e.key) + 0 + length (raw e.separator) + 0 =
+    let a = length-append before e.prefix in
+    let b = length-append (before ++ e.prefix) (raw e.key) in
+    let c = length-append ((before ++ e.prefix) ++ raw e.key) (raw e.separator) in
+    omega arith in
+    part_at bytes front (raw e.value) (e.ending ++ whole_of es rest) (at + length e.prefix + length (raw e.key) + 0 + length (raw e.separator) + 0)
+    (at + length e.prefix + length (raw e.key) + 0 + length (raw e.separator) + 0 + length (raw e.value))
+    (all ∙ simp append_assoc) size refl
+value_at bytes before at (e ∷ es) rest (suc k) h long all =
+    let index : 4 * suc k + 2 ≡ suc (suc (suc (suc (4 * k + 2)))) = omega arith in
+    ap (λ n. text_of bytes (leaf_at (leaves_from at (e ∷ es) rest) n)) index
+    ∙ value_at bytes (before ++ whole_entry e) (entry_end at e) es rest k (omega arith)
+    (length-append before (whole_entry e) ∙ (ap (λ n. n + length (whole_entry e)) long ∙ sym (entry_end-is at e)))
+    (all ∙ sym (append_assoc before (whole_entry e) (whole_of es rest)))
+
 -- ---- the tree
 
 module _ (bytes : List ℕ) where
   pub key_leaf_text : (n : ℕ) → n < length (properties_of bytes).entries → text_of bytes (leaf_at (tree_of bytes).leaves (4 * n)) ≡ raw (entry_at bytes n).key
   unfolding tree_of
   key_leaf_text n there = key_at bytes [] 0 (properties_of bytes).entries (properties_of bytes).rest n there refl (sym (whole-properties_of bytes))
+
+  pub value_leaf_text : (n : ℕ) → n < length (properties_of bytes).entries → text_of bytes (leaf_at (tree_of bytes).leaves (4 * n + 2)) ≡ raw (entry_at bytes n).value
+  unfolding tree_of
+  value_leaf_text n there = value_at bytes [] 0 (properties_of bytes).entries (properties_of bytes).rest n there refl (sym (whole-properties_of bytes))
 
   pub end_of-tree_of : end_of (tree_of bytes) ≡ length bytes
   unfolding tree_of

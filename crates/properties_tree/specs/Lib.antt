@@ -7,3 +7,5 @@ pub mod Layout
 pub mod Sizes
 pub mod Reading
 pub mod Refusal
+pub mod Cutting
+pub mod Steps

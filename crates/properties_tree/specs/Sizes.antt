@@ -1,6 +1,6 @@
 -- How many bytes the parts of a line have, as the reader counts them.
-use Rattle.std.specs.Prelude.{◌≡◌, ℕ, suc, ◌+◌, ◌<◌, ◌≤◌, ◌==◌, Bool, List, [], ◌∷◌, ◌++◌, length, take, drop, if◌then◌else◌}
-use Rattle.properties_tree.specs.Characters.{is_line_end}
+use Rattle.std.specs.Prelude.{◌≡◌, ℕ, suc, ◌+◌, ◌<◌, ◌≤◌, ◌==◌, ◌||◌, Bool, true, List, [], ◌∷◌, ◌++◌, length, take, drop, if◌then◌else◌}
+use Rattle.properties_tree.specs.Characters.{is_line_end, is_comment_mark}
 use Rattle.properties_tree.specs.Lines.{begins_with_lf, lines_of}
 use Rattle.properties_tree.specs.Entries.{Entry, Piece, Properties, entries_of, logical_lines, raw}
 use Rattle.properties_tree.specs.declared.reader.Sizes.{Sizes}
@@ -19,6 +19,11 @@ ending_length (b ∷ rest) =
     if b == 10 then 1
     else if b == 13 then (if begins_with_lf rest then 2 else 1)
     else 0
+
+-- whether a text, behind the blanks of its first line, begins no entry
+abbrev pub begins_no_entry : List ℕ → Bool
+begins_no_entry [] = true
+begins_no_entry (b ∷ rest) = is_line_end b || is_comment_mark b
 
 -- the entries of a text that begins with a line, where this prefix stands before it
 unfoldable pub entries_from : List ℕ → List ℕ → Properties

@@ -2,8 +2,11 @@
 #![tactic(auto)]
 
 mod bytes;
+mod decoding;
 mod layout;
+mod lines;
 mod option;
+mod pieces;
 mod reader;
 mod spelling;
 #[cfg(test)]
@@ -14,4 +17,4 @@ pub use layout::{END, ENDING, ENTRY, FILE, KEY, SEPARATOR, VALUE};
 pub use option::PropertiesChangePropertyKey;
 pub use reader::{MOST_BYTES, read_properties};
 pub use spelling::spell_key;
-pub use tree::{entry_count, has_key, key_leaf, key_of};
+pub use tree::{entry_count, has_key, key_leaf, key_of, value_of};

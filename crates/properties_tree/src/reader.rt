@@ -1,17 +1,15 @@
 // Properties files read into trees, in one pass.
 ghost use Rattle.std.specs.Prelude.{◌≡◌, ◌==◌, ◌+◌, ◌*◌, ◌-◌, ◌<◌, ◌≤◌, ◌^◌, ◌++◌, ◌∷◌, [], ℕ, List, ◌↔◌, length, take, drop, false, IsTrue, IfOk, OnOk};
-ghost use Rattle.std.specs.List.{list_any};
 ghost use Rattle.rw_base.specs.Arena.{end_of};
 ghost use Rattle.rw_base.specs.declared.place.Refused.{Refused};
-ghost use Rattle.properties_tree.specs.Lines.{leading_blanks, is_empty_or_comment};
-ghost use Rattle.properties_tree.specs.Entries.{key_length, begins_with_separator, separator_length};
 ghost use Rattle.properties_tree.specs.Layout.{entry_row, tree_of};
 ghost use Rattle.properties_tree.specs.Reading.{leaves_at, IsRead, numbered_parts};
 ghost use Rattle.properties_tree.specs.Refusal.{too_large};
-ghost use Rattle.properties_tree.specs.Sizes.{text_length, ending_length, Begins, whole_size};
+ghost use Rattle.properties_tree.specs.Sizes.{Begins, whole_size};
 
-use crate::bytes::{ends_key, is_blank, is_comment_mark, is_line_end, is_separator};
 use crate::layout::{END, ENDING, ENTRY, FILE, KEY, SEPARATOR, VALUE};
+use crate::lines::{begins_no_entry, blanks_length, ending_length, text_length};
+use crate::pieces::{key_size, line_size, separator_size};
 use rw_base::{Cause, Leaf, Mem, NodeId, NodeRow, Part, ReadFault, Refused, Tree, place_of};
 use sqlite_items::Items;
 use std::alloc::Global;
@@ -36,111 +34,28 @@ enum Found {
     Entry(Sizes),
 }
 
-#[tactic(auto, using(crate::proofs::Lengths::over_text))]
-fn text_length(text: &[u8]) -> usize
-    ensures value { result ≡ text_length text.now }
-    ensures inside { result ≤ length text.now }
-{
-    for (i, b) in text.iter().enumerate() {
-        if is_line_end(*b) {
-            return i;
-        }
-    }
-    text.len()
-}
-
-fn ending_length(text: &[u8]) -> usize
-    ensures value { result ≡ ending_length text.now }
-    ensures inside { result ≤ length text.now }
-{
-    match text {
-        [b'\n', ..] => 1,
-        [b'\r', b'\n', ..] => 2,
-        [b'\r', ..] => 1,
-        _ => 0,
-    }
-}
-
-#[tactic(auto, using(crate::proofs::Lengths::over_blanks))]
-fn blanks_length(text: &[u8]) -> usize
-    ensures value { result ≡ length (leading_blanks text.now) }
-    ensures inside { result ≤ length text.now }
-{
-    for (i, b) in text.iter().enumerate() {
-        if !is_blank(*b) {
-            return i;
-        }
-    }
-    text.len()
-}
-
-fn is_empty_or_comment(text: &[u8]) -> bool
-    ensures { result ≡ is_empty_or_comment text.now }
-{
-    match text {
-        [] => true,
-        [b, ..] => is_comment_mark(*b),
-    }
-}
-
-#[tactic(auto, using(crate::proofs::Lengths::over_key))]
-fn key_length(text: &[u8]) -> usize
-    requires { list_any (λ b. b == 92) text.now ≡ false }
-    ensures value { result ≡ key_length text.now }
-    ensures inside { result ≤ length text.now }
-{
-    for (i, b) in text.iter().enumerate() {
-        if ends_key(*b) {
-            return i;
-        }
-    }
-    text.len()
-}
-
-fn begins_with_separator(text: &[u8]) -> bool
-    ensures { result ≡ begins_with_separator text.now }
-{
-    match text {
-        [] => false,
-        [b, ..] => is_separator(*b),
-    }
-}
-
-#[tactic(auto, using(crate::proofs::Lengths::over_separator))]
-fn separator_length(text: &[u8]) -> usize
-    ensures value { result ≡ separator_length text.now }
-    ensures inside { result ≤ length text.now }
-{
-    let blanks = blanks_length(text);
-    let behind = &text[blanks..];
-    if begins_with_separator(behind) {
-        blanks + 1 + blanks_length(&behind[1..])
-    } else {
-        blanks
-    }
-}
-
-// What a text begins with.
+// What a text begins with, where a line begins.
 fn first_of(text: &[u8]) -> Found
-    requires some { 0 < length text.now }
-    requires no_backslash { list_any (λ b. b == 92) text.now ≡ false }
+    requires { 0 < length text.now }
     ensures { Begins text.now result }
 {
-    let end = text_length(text);
-    let ending = ending_length(&text[end..]);
-    let line = &text[..end];
-    let blanks = blanks_length(line);
-    let entry = &line[blanks..];
-    if is_empty_or_comment(entry) {
-        return Found::Passed(end + ending);
+    let blanks = blanks_length(text);
+    let line = &text[blanks..];
+    if begins_no_entry(line) {
+        let end = text_length(text);
+        return Found::Passed(end + ending_length(&text[end..]));
     }
-    let key = key_length(entry);
-    let separator = separator_length(&entry[key..]);
+    let key = key_size(line);
+    let behind_key = &line[key..];
+    let separator = separator_size(behind_key);
+    let behind_separator = &behind_key[separator..];
+    let value = line_size(behind_separator);
+    let ending = ending_length(&behind_separator[value..]);
     Found::Entry(Sizes {
         blanks,
         key,
         separator,
-        value: entry.len() - key - separator,
+        value,
         ending,
     })
 }
@@ -239,7 +154,6 @@ fn read_line(
 ) -> Mem<(usize, usize)>
     requires size { length bytes.now ≤ MOST_BYTES }
     requires some { at < length bytes.now }
-    requires no_backslash { list_any (λ b. b == 92) bytes.now ≡ false }
     requires read { IsRead bytes.now leaves.old.items nodes.old.items from at }
     ensures read { IfOk result (λ next. IsRead bytes.now leaves.new.items nodes.new.items next.0 next.1) }
     ensures further { IfOk result (λ next. at < next.1) }
@@ -293,7 +207,6 @@ fn tree_read(
 /// the file is longer than that, and for no other cause. (The documentation of `java.util.Properties`, Java SE 8.)
 #[tactic(auto, using(crate::proofs::InTree::in_tree))]
 pub fn read_properties(alloc: Global, bytes: &[u8]) -> Result<Tree, ReadFault>
-    requires no_backslash { list_any (λ b. b == 92) bytes.now ≡ false }
     ensures tree { IfOk result (λ tree. tree ≡ tree_of bytes.now) }
     ensures size { IfOk result (λ tree. length bytes.now ≡ end_of tree) }
     ensures fits { OnOk result (length bytes.now ≤ MOST_BYTES) }

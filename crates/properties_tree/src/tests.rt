@@ -1,9 +1,10 @@
 // Small files, with what the format says of them.
-ghost use Rattle.std.specs.Prelude.{◌≡◌, ◌==◌, false};
-ghost use Rattle.std.specs.List.{list_any};
+ghost use Rattle.std.specs.Prelude.{◌≡◌};
 ghost use Rattle.properties_tree.specs.Layout.{tree_of};
 
-use crate::{MOST_BYTES, entry_count, has_key, key_leaf, key_of, read_properties, spell_key};
+use crate::{
+    MOST_BYTES, entry_count, has_key, key_leaf, key_of, read_properties, spell_key, value_of,
+};
 use rw_base::{Cause, Mem, NodeId, ReadFault, Tree};
 use std::alloc::Global;
 use std::test::Fail;
@@ -28,56 +29,135 @@ fn shown_leaves(alloc: Global, tree: &Tree, bytes: &[u8]) -> Mem<Vec<u8>>
     Ok(out)
 }
 
-// The keys of a file, a `|` behind each.
-fn shown_keys(alloc: Global, tree: &Tree, bytes: &[u8]) -> Mem<Vec<u8>>
-    requires tree { tree.now ≡ tree_of bytes.now }
-    requires no_backslash { list_any (λ b. b == 92) bytes.now ≡ false }
+// The entries of a file: each key, `=`, the value and `|`.
+fn shown_entries(alloc: Global, tree: &Tree, bytes: &[u8]) -> Mem<Vec<u8>>
+    requires { tree.now ≡ tree_of bytes.now }
 {
     let mut out = Vec::new(alloc);
     for n in 0..entry_count(tree, bytes) {
         let key = key_of(alloc, tree, bytes, NodeId(n))?;
+        let value = value_of(alloc, tree, bytes, NodeId(n))?;
         out.extend_from_slice(&key)?;
+        out.push(b'=')?;
+        out.extend_from_slice(&value)?;
         out.push(b'|')?;
     }
     Ok(out)
 }
 
 #[test]
-fn plain_files(rt: HostRuntime) -> Result<(), Fail> {
+fn leaves(rt: HostRuntime) -> Result<(), Fail> {
     let alloc = rt.alloc();
     let table = [
-        ("", "[]", ""),
-        ("a=1", "[a][=][1][][]", "a|"),
-        ("a=1\n", "[a][=][1][\n][]", "a|"),
-        ("a:1\r\nb 2\r", "[a][:][1][\r\n][b][ ][2][\r][]", "a|b|"),
-        ("a\n\r\nb\n", "[a][][][\n](\r\n)[b][][][\n][]", "a|b|"),
+        ("", "[]"),
+        ("a=1", "[a][=][1][][]"),
+        ("a:1\r\nb 2\r", "[a][:][1][\r\n][b][ ][2][\r][]"),
+        ("a\n\r\nb\n", "[a][][][\n](\r\n)[b][][][\n][]"),
         (
             "# c\n! d\r\n \t\x0c\na=1\n",
             "(# c\n! d\r\n \t\x0c\n)[a][=][1][\n][]",
-            "a|",
         ),
-        ("  # no = entry", "(  # no = entry)[]", ""),
-        ("  a =  1 \n", "(  )[a][ =  ][1 ][\n][]", "a|"),
-        ("a # b", "[a][ ][# b][][]", "a|"),
-        ("=v\n: w", "[][=][v][\n][][: ][w][][]", "||"),
-        ("k\tx=y", "[k][\t][x=y][][]", "k|"),
-        ("k:=v", "[k][:][=v][][]", "k|"),
-        ("k ", "[k][ ][][][]", "k|"),
-        ("a=1\n\n# end\n", "[a][=][1][\n](\n# end\n)[]", "a|"),
+        ("  a =  1 \n", "(  )[a][ =  ][1 ][\n][]"),
+        ("=v\n: w", "[][=][v][\n][][: ][w][][]"),
+        ("a=1\n\n# end\n", "[a][=][1][\n](\n# end\n)[]"),
+        (
+            "# c\r\nol\\\r\n  d=1\r\nx\\=y : 2\r\nold=3",
+            "(# c\r\n)[ol\\\r\n  d][=][1][\r\n][x\\=y][ : ][2][\r\n][old][=][3][][]",
+        ),
+        ("\\\n=1", "[][\\\n=][1][][]"),
+        ("a\\\n =1", "[a][\\\n =][1][][]"),
+        ("a= \\\n 1\\\n", "[a][= ][\\\n 1\\\n][][]"),
+        ("a\\\n\\\n  b", "[a\\\n\\\n  b][][][][]"),
     ];
-    for (text, leaves, keys) in table {
+    for (text, leaves) in table {
         let bytes = text.as_bytes();
-        assert!(rt; !bytes.contains(&b'\\'));
         let tree = read_properties(alloc, bytes)?;
         assert_eq!(rt;
             shown_leaves(alloc, &tree, bytes)?.as_slice(),
             leaves.as_bytes(),
             "leaves of {text}"
         );
+    }
+    Ok(())
+}
+
+#[test]
+fn entries(rt: HostRuntime) -> Result<(), Fail> {
+    let alloc = rt.alloc();
+    let table = [
+        ("", ""),
+        ("a=1", "a=1|"),
+        ("a = 1 ", "a=1 |"),
+        ("a:1\rb 2\n", "a=1|b=2|"),
+        ("a", "a=|"),
+        ("a ", "a=|"),
+        ("=1", "=1|"),
+        (" : ", "=|"),
+        ("a:=1", "a==1|"),
+        ("a = = 1", "a== 1|"),
+        ("a\tb c", "a=b c|"),
+        ("a\x0cb", "a=b|"),
+        ("a#b=c!d", "a#b=c!d|"),
+        ("#a=1\nb=2", "b=2|"),
+        ("  !a=1\r\n\r\n b=2", "b=2|"),
+        ("#a=1\\\nb=2", "b=2|"),
+        ("a\\ b=1", "a b=1|"),
+        ("a\\=b\\:c=1", "a=b:c=1|"),
+        ("\\#a=1", "#a=1|"),
+        ("\\!a=1", "!a=1|"),
+        ("\\ a=1", " a=1|"),
+        ("a\\\\=1", "a\\=1|"),
+        ("a\\\\b=1", "a\\b=1|"),
+        ("a=\\ 1", "a= 1|"),
+        ("a=\\t\\n\\r\\f", "a=\t\n\r\x0c|"),
+        ("a=\\q\\\"\\'", "a=q\"'|"),
+        ("a=b\\\nc", "a=bc|"),
+        ("a=b\\\n  \t c", "a=bc|"),
+        ("a=b\\\r\n c", "a=bc|"),
+        ("a=b\\\r c", "a=bc|"),
+        ("a=b\\\\\nc=d", "a=b\\|c=d|"),
+        ("a=b\\\\\\\n c=d", "a=b\\c=d|"),
+        ("a=b\\\n# c", "a=b# c|"),
+        ("a=b\\\n\nc=d", "a=b|c=d|"),
+        ("a=b\\\n  \nc=d", "a=b|c=d|"),
+        ("a\\\n b = c", "ab=c|"),
+        ("a \\\n = \\\n b", "a=b|"),
+        ("a=b\\", "a=b|"),
+        ("a=b\\\n", "a=b|"),
+        ("\\u0061\\u003db=\\u00e9", "a=b=é|"),
+        ("a=\\u20aC\\uFFFD", "a=€\u{fffd}|"),
+        ("a=\\ud83d\\ude00", "a=\u{1f600}|"),
+        ("a=\\ud83d\\\n\\ude00", "a=\u{1f600}|"),
+        ("a=\\u00\\\n  41", "a=A|"),
+        ("a=\\u000a\\u005cn", "a=\n\\n|"),
+        // differs from Java: a lone surrogate stays there
+        ("a=\\ud83d", "a=\u{fffd}|"),
+        ("a=\\ud83dx\\ude00", "a=\u{fffd}x\u{fffd}|"),
+        ("a=\\ude00\\ud83d", "a=\u{fffd}\u{fffd}|"),
+        ("a=\\ud83d\\ud83d\\ude00", "a=\u{fffd}\u{1f600}|"),
+        // differs from Java: an error there
+        ("a=\\u12", "a=u12|"),
+        ("a=\\u12g4", "a=u12g4|"),
+        ("a=\\u", "a=u|"),
+        // differs from Java: a comment there
+        ("\\\n# c", "#=c|"),
+        // differs from Java: no entry there
+        ("\\\n\n", "=|"),
+        ("\\\n ", "=|"),
+        ("\\\r\n", "=|"),
+        ("\\", "=|"),
+        (
+            "# c\r\nol\\\r\n  d=1\r\nx\\=y : 2\r\nold=3",
+            "old=1|x=y=2|old=3|",
+        ),
+    ];
+    for (text, entries) in table {
+        let bytes = text.as_bytes();
+        let tree = read_properties(alloc, bytes)?;
         assert_eq!(rt;
-            shown_keys(alloc, &tree, bytes)?.as_slice(),
-            keys.as_bytes(),
-            "keys of {text}"
+            shown_entries(alloc, &tree, bytes)?.as_slice(),
+            entries.as_bytes(),
+            "entries of {text}"
         );
     }
     Ok(())
@@ -87,13 +167,18 @@ fn plain_files(rt: HostRuntime) -> Result<(), Fail> {
 fn keys_and_limits(rt: HostRuntime) -> Result<(), Fail> {
     let alloc = rt.alloc();
     let bytes = [b'\xe9', b'=', b'\xe9', b'\n'].as_slice();
-    assert!(rt; !bytes.contains(&b'\\'));
     let tree = read_properties(alloc, bytes)?;
     assert_eq!(rt; entry_count(&tree, bytes), 1);
     if 0 < entry_count(&tree, bytes) {
         assert_eq!(rt; key_leaf(&tree, bytes, NodeId(0)), 0);
         assert!(rt; has_key(alloc, &tree, bytes, NodeId(0), [b'\xe9'].as_slice())?);
         assert!(rt; !has_key(alloc, &tree, bytes, NodeId(0), "é".as_bytes())?);
+    }
+    let bytes = "\\u00e9=1".as_bytes();
+    let tree = read_properties(alloc, bytes)?;
+    if 0 < entry_count(&tree, bytes) {
+        assert!(rt; has_key(alloc, &tree, bytes, NodeId(0), "é".as_bytes())?);
+        assert!(rt; !has_key(alloc, &tree, bytes, NodeId(0), "e".as_bytes())?);
     }
     let spelled = spell_key(alloc, "a b=c:#!\\\t\n\r\x0cé".as_bytes())?;
     assert_eq!(rt;
@@ -102,12 +187,10 @@ fn keys_and_limits(rt: HostRuntime) -> Result<(), Fail> {
     );
     let most = vec![in alloc; b'a'; MOST_BYTES]?;
     let most = most.as_slice();
-    assert!(rt; !most.contains(&b'\\'));
     let tree = read_properties(alloc, most)?;
     assert_eq!(rt; entry_count(&tree, most), 1);
     let long = vec![in alloc; b'a'; MOST_BYTES + 1]?;
     let long = long.as_slice();
-    assert!(rt; !long.contains(&b'\\'));
     let Err(ReadFault::Refused(refused)) = read_properties(alloc, long) else {
         return Err(Fail::new("read"))
     };

@@ -1,10 +1,10 @@
 // What the tree of a properties file says of its entries.
-ghost use Rattle.std.specs.Prelude.{◌≡◌, ◌==◌, ◌<◌, ◌+◌, ◌*◌, ◌↔◌, IsTrue, IfOk, length, false};
-ghost use Rattle.std.specs.List.{list_any};
-ghost use Rattle.properties_tree.specs.Entries.{properties_of};
-ghost use Rattle.properties_tree.specs.Decoding.{key_text, entry_at};
+ghost use Rattle.std.specs.Prelude.{◌≡◌, ◌<◌, ◌+◌, ◌*◌, ◌↔◌, IsTrue, IfOk, length};
+ghost use Rattle.properties_tree.specs.Entries.{properties_of, raw};
+ghost use Rattle.properties_tree.specs.Decoding.{key_text, value_text, entry_at};
 ghost use Rattle.properties_tree.specs.Layout.{tree_of, key_leaf_of};
 
+use crate::decoding::said_by;
 use rw_base::{Mem, NodeId, Tree};
 use std::alloc::Global;
 
@@ -31,34 +31,59 @@ pub fn key_leaf(tree: &Tree, bytes: &[u8], entry: NodeId) -> u32
     tree.leaves_of(entry).0
 }
 
+// The bytes of an entry's key, as they stand in the file.
 #[tactic(auto, using(crate::proofs::InTree::in_tree))]
 fn key_bytes<'b>(tree: &Tree, bytes: &'b [u8], entry: NodeId) -> &'b [u8]
     requires tree { tree.now ≡ tree_of bytes.now }
     requires there { entry.0 < length (properties_of bytes.now).entries }
-    requires no_backslash { list_any (λ b. b == 92) bytes.now ≡ false }
-    ensures { result.now ≡ key_text (entry_at bytes.now entry.0) }
+    ensures { result.now ≡ raw (entry_at bytes.now entry.0).key }
 {
     tree.text(bytes, key_leaf(tree, bytes, entry))
 }
 
-/// The key of an entry, decoded: `\t`, `\n`, `\r` and `\f` are control characters, `\u` with four hex digits a UTF-16
-/// code unit, and another backslash is dropped. (The documentation of `java.util.Properties`, Java SE 8.)
+// The bytes of an entry's value, as they stand in the file.
+#[tactic(auto, using(crate::proofs::InTree::in_tree))]
+fn value_bytes<'b>(tree: &Tree, bytes: &'b [u8], entry: NodeId) -> &'b [u8]
+    requires tree { tree.now ≡ tree_of bytes.now }
+    requires there { entry.0 < length (properties_of bytes.now).entries }
+    ensures { result.now ≡ raw (entry_at bytes.now entry.0).value }
+{
+    tree.text(bytes, tree.leaves_of(entry).1 - 2)
+}
+
+/// The key of an entry, decoded: line ends behind a backslash and the blanks behind them are gone; `\t`, `\n`, `\r` and
+/// `\f` are control characters; `\u` with four hex digits is a UTF-16 code unit, in UTF-8, where a surrogate that is in
+/// no pair becomes U+FFFD; another backslash is dropped. (The documentation of `java.util.Properties`, Java SE 8.)
+#[tactic(auto, using(crate::proofs::InTree::what_is_said))]
 pub fn key_of(alloc: Global, tree: &Tree, bytes: &[u8], entry: NodeId) -> Mem<Vec<u8>>
     requires tree { tree.now ≡ tree_of bytes.now }
     requires there { entry.0 < length (properties_of bytes.now).entries }
-    requires no_backslash { list_any (λ b. b == 92) bytes.now ≡ false }
     ensures { IfOk result (λ key. key.items ≡ key_text (entry_at bytes.now entry.0)) }
 {
-    Ok(Vec::from_slice(alloc, key_bytes(tree, bytes, entry))?)
+    said_by(alloc, key_bytes(tree, bytes, entry))
 }
 
-/// Whether an entry's key, decoded, is this one.
+/// The value of an entry, decoded as a key is.
+#[tactic(auto, using(crate::proofs::InTree::what_is_said))]
+pub fn value_of(alloc: Global, tree: &Tree, bytes: &[u8], entry: NodeId) -> Mem<Vec<u8>>
+    requires tree { tree.now ≡ tree_of bytes.now }
+    requires there { entry.0 < length (properties_of bytes.now).entries }
+    ensures { IfOk result (λ value. value.items ≡ value_text (entry_at bytes.now entry.0)) }
+{
+    said_by(alloc, value_bytes(tree, bytes, entry))
+}
+
+/// Whether an entry's key, decoded, is this one. Takes no memory where the key's bytes have no backslash.
+#[tactic(auto, using(crate::proofs::InTree::what_is_said))]
 pub fn has_key(alloc: Global, tree: &Tree, bytes: &[u8], entry: NodeId, key: &[u8]) -> Mem<bool>
     requires tree { tree.now ≡ tree_of bytes.now }
     requires there { entry.0 < length (properties_of bytes.now).entries }
-    requires no_backslash { list_any (λ b. b == 92) bytes.now ≡ false }
     ensures { IfOk result (λ same. IsTrue same ↔ (key_text (entry_at bytes.now entry.0) ≡ key.now)) }
 {
-    let _ = alloc;
-    Ok(key_bytes(tree, bytes, entry) == key)
+    let part = key_bytes(tree, bytes, entry);
+    if part.contains(&b'\\') {
+        let said = said_by(alloc, part)?;
+        return Ok(said.as_slice() == key);
+    }
+    Ok(part == key)
 }

@@ -181,9 +181,12 @@ made_more changes made path bytes left before now next e =
 pub stopped : (changes : List PathChange) (made : ℕ) (path bytes : List ℕ) (left : List PathChange) (before now after : Files) → IsNext changes made (path, bytes) left
     → now ≡ put_all (take made changes) before → SameElsewhere path now after → IsPart changes before after
 stopped changes made path bytes left before now after next e same =
-    inr (made, record {
-      some_left = next.some;
-      others = subst (λ (c : PathChange). map.remove after c.0 ≡ map.remove (put_all (take made changes) before) c.0) (sym next.here) (same ∙ ap (λ n. map.remove n path) e);
-    })
+    inr (
+      made,
+      record {
+        some_left = next.some;
+        others = subst (λ (c : PathChange). map.remove after c.0 ≡ map.remove (put_all (take made changes) before) c.0) (sym next.here) (same ∙ ap (λ n. map.remove n path) e);
+      },
+    )
 
 pub ruleset paired = (pairs-nil, pairs-cons, put_nil, put_end)

@@ -1,6 +1,5 @@
 -- What a run makes of a file.
-use Rattle.std.specs.Prelude.{ℕ, Bool, true, false, ◌||◌, ◌&&◌, ◌==◌, nat_lt, List, length, Option, None, Some, is_none, unwrap_or, if◌then◌else◌}
-use Rattle.std.specs.List.{list_any}
+use Rattle.std.specs.Prelude.{ℕ, Bool, true, false, ◌||◌, ◌&&◌, nat_lt, List, length, Option, None, Some, is_none, unwrap_or, if◌then◌else◌}
 use Rattle.rw_base.specs.NewText.{new_text}
 use Rattle.properties_tree.specs.declared.option.PropertiesChangePropertyKey.{PropertiesChangePropertyKey}
 use Rattle.properties_tree.specs.declared.reader.TheConstants.{MOST_BYTES}
@@ -16,15 +15,10 @@ options_of old new = record { old_property_key = old; new_property_key = new }
 unfoldable pub renamed : List ℕ → List ℕ → List ℕ → List ℕ
 renamed old new bytes = new_text (tree_of bytes) bytes (edits_of bytes (options_of old new))
 
--- whether a text has a backslash
-abbrev pub has_backslash : List ℕ → Bool
-has_backslash bytes = list_any (λ b. b == 92) bytes
-
--- The new bytes of a properties file, none where it is refused: where it is too large, before or after, and until
--- escapes are read where it has a backslash.
+-- The new bytes of a properties file, none where it is refused: where it is too large, before or after.
 unfoldable pub new_bytes : List ℕ → List ℕ → List ℕ → Option (List ℕ)
 new_bytes old new bytes =
-    if nat_lt MOST_BYTES (length bytes) || has_backslash bytes || nat_lt MOST_BYTES (length (renamed old new bytes))
+    if nat_lt MOST_BYTES (length bytes) || nat_lt MOST_BYTES (length (renamed old new bytes))
     then None
     else Some (renamed old new bytes)
 

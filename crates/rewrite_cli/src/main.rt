@@ -6,6 +6,8 @@ mod paths;
 mod renaming;
 mod rewrite;
 mod status;
+#[cfg(test)]
+mod tests;
 
 use crate::rewrite::rewrite;
 use crate::status::{NO_MEMORY, USAGE};

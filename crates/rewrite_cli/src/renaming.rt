@@ -1,7 +1,7 @@
 // What a run makes of one properties file.
 ghost use Rattle.std.specs.Prelude.{◌≡◌, IfOk};
 ghost use Rattle.std.specs.Str.{bytes_eq};
-ghost use Rattle.rewrite_cli.specs.Renaming.{has_backslash, new_bytes};
+ghost use Rattle.rewrite_cli.specs.Renaming.{new_bytes};
 ghost use Rattle.rewrite_cli.specs.Outcomes.{bytes_told, IsOther};
 
 use conf_recipes::edits_in_properties;
@@ -12,7 +12,7 @@ use std::alloc::Global;
 /// What becomes of a properties file.
 #[derive(Drop)]
 pub enum Outcome {
-    /// It is too large, before or after, or has a backslash, and keeps its bytes.
+    /// It is too large, before or after, and keeps its bytes.
     Refused,
     /// It keeps its bytes.
     Kept,
@@ -26,12 +26,6 @@ pub fn is_same(a: &[u8], b: &[u8]) -> bool
     a == b
 }
 
-fn has_backslash(bytes: &[u8]) -> bool
-    ensures { result ≡ has_backslash bytes.now }
-{
-    bytes.contains(&b'\\')
-}
-
 /// What a renaming makes of a properties file of these bytes.
 #[tactic(auto, using(crate::proofs::Outcomes::made))]
 pub fn outcome_of(
@@ -42,9 +36,6 @@ pub fn outcome_of(
     ensures bytes { IfOk result (λ told. bytes_told told bytes.now ≡ new_bytes options.now.old_property_key options.now.new_property_key bytes.now) }
     ensures other { IfOk result (λ told. IsOther told bytes.now) }
 {
-    if has_backslash(bytes) {
-        return Ok(Outcome::Refused);
-    }
     let tree = match read_properties(alloc, bytes) {
         Ok(tree) => tree,
         Err(ReadFault::Refused(_)) => return Ok(Outcome::Refused),
