@@ -72,7 +72,10 @@ mod tests {
         let edits = edits_in_properties(rt.alloc(), &tree, bytes, &options)?;
         assert_eq!(rt; edits.len(), 3);
         let text = rearranged(rt.alloc(), &tree, bytes, &edits)?;
-        assert_eq!(rt; text.as_slice(), b"x\\==1\n#a\n x\\= : 2\nab=3\na\\\n b=4\nx\\=".as_slice());
+        assert_eq!(rt;
+            text.as_slice(),
+            b"x\\==1\n#a\n x\\= : 2\nab=3\na\\\n b=4\nx\\=".as_slice()
+        );
         Ok(())
     }
 }

@@ -1,17 +1,15 @@
 -- The bytes of a key or a value say what the entry says.
-use Rattle.std.proofs.Common.{◌≡◌, ℕ, zero, suc, ◌+◌, ◌-◌, ◌<◌, ◌≤◌, Bool, true, false, List, [], ◌∷◌, ◌++◌, length, get_or, take, drop, refl, sym, ◌∙◌, ap, subst, arith, inl, inr, length-drop, append-nil}
-use Rattle.std.specs.Prelude.{◌==◌, ◌||◌}
-use Rattle.std.proofs.lemmas.Bool.{cases_Bool, or_parts}
-use Rattle.properties_tree.specs.Characters.{is_line_end}
-use Rattle.properties_tree.specs.Lines.{lines_of, leading_blanks, unblanked, is_empty_or_comment}
-use Rattle.properties_tree.specs.Entries.{Piece, char, raw, meant, chars, Entry, Properties, entries_of, properties_of, no_entry, grouped}
+use Rattle.std.proofs.Common.{◌≡◌, ℕ, zero, suc, ◌+◌, ◌<◌, ◌≤◌, false, List, [], ◌∷◌, ◌++◌, length, get_or, take, drop, sym, ◌∙◌, ap, subst, arith, inl, inr, length-drop}
+use Rattle.std.proofs.lemmas.Bool.{cases_Bool}
+use Rattle.properties_tree.specs.Lines.{leading_blanks, unblanked}
+use Rattle.properties_tree.specs.Entries.{raw, meant, Entry, Properties, properties_of, no_entry}
 use Rattle.properties_tree.specs.Sizes.{entries_from, text_length, ending_length, begins_no_entry}
 use Rattle.properties_tree.specs.Cutting.{pieces_in, line_size}
-use Rattle.properties_tree.specs.Decoding.{elements_behind, text_of, byte, decoded, key_text, value_text, entry_at}
-use Rattle.properties_tree.proofs.Lengths.{has_backslash, unblanked_is}
-use Rattle.properties_tree.proofs.FirstLine.{line_text, behind_text, some_line}
-use Rattle.properties_tree.proofs.Plain.{meant-chars, passes}
-use Rattle.properties_tree.proofs.Cut.{at_none, at_char, at_end}
+use Rattle.properties_tree.specs.Decoding.{decoded, key_text, value_text, entry_at}
+use Rattle.properties_tree.proofs.Lengths.{unblanked_is}
+use Rattle.properties_tree.proofs.FirstLine.{behind_text, some_line}
+use Rattle.properties_tree.proofs.Plain.{passes}
+use Rattle.properties_tree.proofs.Cut.{at_none}
 use Rattle.properties_tree.proofs.EntryAt.{entry_begins, key_alone, value_alone, behind_entry, line-le}
 use Rattle.properties_tree.proofs.First.{passed_over, some_line_size}
 use Rattle.properties_tree.proofs.Goes.{entries-none}

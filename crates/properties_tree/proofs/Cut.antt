@@ -1,14 +1,13 @@
 -- The pieces of a text, one after another.
-use Rattle.std.proofs.Common.{◌≡◌, ℕ, zero, suc, ◌+◌, ◌-◌, ◌<◌, ◌≤◌, Bool, true, false, List, [], ◌∷◌, ◌++◌, length, get_or, take, drop, refl, sym, ◌∙◌, ap, subst, arith, inl, inr, append_assoc, append-nil, length-append, length-take, length-drop}
-use Rattle.std.specs.Prelude.{◌==◌, ◌||◌, ◌&&◌, not, if◌then◌else◌}
-use Rattle.std.proofs.lemmas.Bool.{cases_Bool, false≢true, eqb-true, or_parts}
+use Rattle.std.proofs.Common.{◌≡◌, ℕ, zero, suc, ◌≤◌, Bool, true, false, List, [], ◌∷◌, ◌++◌, length, take, drop, refl, sym, ◌∙◌, ap, subst, arith, inl, inr, append_assoc, append-nil, length-append, length-drop}
+use Rattle.std.specs.Prelude.{◌==◌, ◌&&◌, not}
+use Rattle.std.proofs.lemmas.Bool.{cases_Bool, false≢true, eqb-true}
 use Rattle.std.proofs.lemmas.List.{take-append-drop, take_at, drop_at, length-take-le}
 use Rattle.properties_tree.specs.Characters.{is_line_end, is_blank, is_separator, ends_key, backslash}
 use Rattle.properties_tree.specs.Lines.{leading_blanks, unblanked, begins_with_lf}
-use Rattle.properties_tree.specs.Entries.{Piece, char, joint, raw, meant, chars, through, behind, key_length, separator_length}
-use Rattle.properties_tree.specs.Sizes.{ending_length}
+use Rattle.properties_tree.specs.Entries.{Piece, char, joint, raw, meant, through, key_length}
 use Rattle.properties_tree.proofs.Lengths.{unblanked_is, leading_is, blanks-le}
-use Rattle.properties_tree.specs.Cutting.{joins, joint_size, pieces_behind, pieces_in, char_at, key_front, separator_front, separator_from}
+use Rattle.properties_tree.specs.Cutting.{joins, joint_size, pieces_behind, pieces_in, key_front, separator_front, separator_from}
 
 -- ---- one piece more
 

@@ -1,9 +1,8 @@
 -- One element more, as a text is decoded.
-use Rattle.std.proofs.Common.{◌≡◌, ℕ, zero, suc, ◌+◌, ◌-◌, ◌<◌, ◌≤◌, Bool, true, false, List, [], ◌∷◌, ◌++◌, length, get_or, take, drop, Option, Some, None, refl, sym, ◌∙◌, ap, subst, arith, inl, inr, append_assoc, append-nil, length-drop}
-use Rattle.std.specs.Prelude.{◌==◌, ◌&&◌, if◌then◌else◌, encode_utf8}
-use Rattle.std.proofs.lemmas.Bool.{cases_Bool, eqb-true}
+use Rattle.std.proofs.Common.{◌≡◌, ℕ, zero, suc, ◌+◌, ◌<◌, ◌≤◌, true, false, List, [], ◌∷◌, ◌++◌, length, get_or, drop, Option, Some, None, refl, sym, ◌∙◌, ap, arith, append_assoc, append-nil}
+use Rattle.std.specs.Prelude.{◌==◌, ◌&&◌, encode_utf8}
 use Rattle.std.proofs.lemmas.List.{drop_more, drop_all, drop-drop}
-use Rattle.properties_tree.specs.Decoding.{Element, byte, code, Escape, escape_of, escaped, four_hex, elements_behind, elements_of, text_of, lone, pair_of, is_high, is_low, decoded}
+use Rattle.properties_tree.specs.Decoding.{Element, byte, code, Escape, escape_of, escaped, four_hex, elements_behind, elements_of, text_of, lone, pair_of, is_high, is_low}
 use Rattle.properties_tree.specs.Steps.{Takes, GoesOn, waiting}
 
 elements_behind-drop : (n : ℕ) (s : List ℕ) → elements_behind n s ≡ elements_of (drop n s)
@@ -16,11 +15,11 @@ pub none_said : elements_of [] ≡ []
 unfolding elements_behind
 none_said = refl
 
-at_byte : (b : ℕ) (rest : List ℕ) → (b == 92) ≡ false → elements_of (b ∷ rest) ≡ byte b ∷ elements_of rest
+pub at_byte : (b : ℕ) (rest : List ℕ) → (b == 92) ≡ false → elements_of (b ∷ rest) ≡ byte b ∷ elements_of rest
 unfolding elements_behind
 at_byte b rest other = rw other refl
 
-at_escape : (b : ℕ) (rest : List ℕ) → (b == 92) ≡ true → elements_of (b ∷ rest) ≡ (escape_of rest).elements ++ elements_of (drop (escape_of rest).size rest)
+pub at_escape : (b : ℕ) (rest : List ℕ) → (b == 92) ≡ true → elements_of (b ∷ rest) ≡ (escape_of rest).elements ++ elements_of (drop (escape_of rest).size rest)
 unfolding elements_behind
 at_escape b rest slash = rw slash (ap (λ es. (escape_of rest).elements ++ es) (elements_behind-drop (escape_of rest).size rest))
 

@@ -1,20 +1,17 @@
 -- The entry that a text begins with, from its bytes.
-use Rattle.std.proofs.Common.{◌≡◌, ℕ, zero, suc, ◌+◌, ◌-◌, ◌<◌, ◌≤◌, Bool, true, false, List, [], ◌∷◌, ◌++◌, length, get_or, take, drop, refl, sym, ◌∙◌, ap, subst, arith, inl, inr, append_assoc, append-nil, length-append, length-take, length-drop}
-use Rattle.std.specs.Prelude.{◌==◌, ◌||◌, ◌&&◌, not, if◌then◌else◌}
-use Rattle.std.proofs.Math.Seq.{take-add}
-use Rattle.std.proofs.lemmas.Bool.{cases_Bool, false≢true}
-use Rattle.std.proofs.lemmas.List.{drop_at, drop-drop, length-take-le, append_cancel_left}
-use Rattle.properties_tree.specs.Characters.{is_line_end, is_blank, is_separator}
-use Rattle.properties_tree.specs.Lines.{Line, leading_blanks, unblanked, goes_on, is_empty_or_comment, lines_of}
-use Rattle.properties_tree.specs.Entries.{Logical, entry, Piece, char, joint, raw, meant, Joined, joined, grouped, logical_lines, through, behind, Entry, entry_of, Properties, entries_of, key_length, separator_length, begins_with_separator}
-use Rattle.properties_tree.specs.Sizes.{text_length, ending_length, entries_from, with_entry}
+use Rattle.std.proofs.Common.{◌≡◌, ℕ, zero, suc, ◌+◌, ◌≤◌, true, false, List, [], ◌∷◌, ◌++◌, length, drop, refl, sym, ◌∙◌, ap, arith, inl, inr, length-append}
+use Rattle.std.proofs.lemmas.Bool.{cases_Bool}
+use Rattle.std.proofs.lemmas.List.{drop-drop, append_cancel_left}
+use Rattle.properties_tree.specs.Characters.{is_blank, is_separator}
+use Rattle.properties_tree.specs.Lines.{Line, leading_blanks, unblanked, goes_on, is_empty_or_comment}
+use Rattle.properties_tree.specs.Entries.{Logical, Piece, char, joint, raw, meant, Joined, joined, grouped, logical_lines, through, behind, Entry, entry_of, entries_of, key_length, separator_length, begins_with_separator}
+use Rattle.properties_tree.specs.Sizes.{ending_length, entries_from, with_entry}
 use Rattle.properties_tree.specs.Cutting.{joins, pieces_in, key_front, separator_front, separator_from, key_size, separator_size, line_size}
-use Rattle.properties_tree.proofs.Lengths.{unblanked_is, leading_is, blanks-le}
 use Rattle.properties_tree.proofs.FirstLine.{line_text, behind_text, ending_text, lines_behind, line_of, first_line, entries_behind, some_ending}
 use Rattle.properties_tree.proofs.Plain.{grouped-begins}
 use Rattle.properties_tree.proofs.Whole.{raw-append, through-behind, goes_on-unblanked}
-use Rattle.properties_tree.proofs.Cut.{cut, IsFront, line_front, key_is_front, separator_is_front, pieces-behind, pieces-alone, front_length, at_none}
-use Rattle.properties_tree.proofs.Logical.{logical, IsLogical, blanked, IsBlanked}
+use Rattle.properties_tree.proofs.Cut.{cut, IsFront, line_front, key_is_front, separator_is_front, pieces-behind, pieces-alone, front_length}
+use Rattle.properties_tree.proofs.Logical.{logical, blanked}
 
 -- ---- counts of characters
 

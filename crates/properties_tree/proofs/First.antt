@@ -1,19 +1,17 @@
 -- What a text begins with, as the reader finds it.
-use Rattle.std.proofs.Common.{◌≡◌, ℕ, zero, suc, ◌+◌, ◌-◌, ◌<◌, ◌≤◌, Bool, true, false, List, [], ◌∷◌, ◌++◌, length, get_or, take, drop, refl, sym, ◌∙◌, ap, subst, arith, inl, inr, length-drop}
-use Rattle.std.specs.Prelude.{◌==◌, ◌||◌, if◌then◌else◌}
+use Rattle.std.proofs.Common.{◌≡◌, ℕ, ◌+◌, ◌-◌, ◌<◌, ◌≤◌, true, false, List, [], ◌∷◌, ◌++◌, length, take, drop, refl, sym, ◌∙◌, ap, subst, arith, inl, inr, length-drop}
 use Rattle.std.proofs.lemmas.Bool.{cases_Bool, false≢true, or_parts}
 use Rattle.std.proofs.lemmas.List.{take_rest, drop-drop, length-take-le}
 use Rattle.properties_tree.specs.Characters.{is_line_end, is_comment_mark}
 use Rattle.properties_tree.specs.Lines.{leading_blanks, unblanked, is_empty_or_comment}
-use Rattle.properties_tree.specs.Entries.{Entry, Piece, Properties, raw, no_entry}
-use Rattle.properties_tree.specs.Sizes.{text_length, ending_length, begins_no_entry, entries_from, with_entry, whole_size, BeginsPassed, BeginsEntry}
+use Rattle.properties_tree.specs.Sizes.{text_length, ending_length, begins_no_entry, entries_from, with_entry, BeginsPassed, BeginsEntry}
 use Rattle.properties_tree.specs.Cutting.{pieces_in, key_front, separator_front, key_size, separator_size, line_size}
 use Rattle.properties_tree.proofs.Lengths.{unblanked_is, leading_is}
 use Rattle.properties_tree.proofs.FirstLine.{line_text, behind_text, ending_text, some_line}
 use Rattle.properties_tree.proofs.Plain.{passes}
 use Rattle.properties_tree.proofs.Cut.{cut, IsCut, nothing, ended, by_char, by_pair, by_joint, at_char, at_pair, at_joint}
-use Rattle.properties_tree.proofs.Logical.{blanked, IsBlanked}
-use Rattle.properties_tree.proofs.EntryAt.{behind_key, behind_separator, behind_line, sizes, cut_entry, entry_text, behind_entry, entry_begins, key_alone, value_alone, line-le}
+use Rattle.properties_tree.proofs.Logical.{blanked}
+use Rattle.properties_tree.proofs.EntryAt.{behind_key, behind_separator, behind_line, sizes, cut_entry, behind_entry, entry_begins}
 
 no_entry_begins : (u : List ℕ) → is_empty_or_comment (line_text u) ≡ begins_no_entry u
 no_entry_begins [] = refl

@@ -1,11 +1,11 @@
 -- The first natural line of a text, and the lines behind it.
-use Rattle.std.proofs.Common.{◌≡◌, ℕ, suc, ◌+◌, ◌<◌, ◌≤◌, Bool, true, false, List, [], ◌∷◌, ◌++◌, length, get_or, take, drop, refl, sym, ◌∙◌, ap, arith, inl, inr}
-use Rattle.std.specs.Prelude.{◌==◌, ◌||◌, if◌then◌else◌}
-use Rattle.std.proofs.lemmas.Bool.{cases_Bool, or_from, eqb-true, eqb-false, false≢true}
+use Rattle.std.proofs.Common.{◌≡◌, ℕ, ◌+◌, ◌<◌, true, false, List, [], ◌∷◌, length, take, drop, refl, sym, ap, arith, inl, inr}
+use Rattle.std.specs.Prelude.{◌==◌, if◌then◌else◌}
+use Rattle.std.proofs.lemmas.Bool.{cases_Bool, eqb-true}
 use Rattle.std.proofs.lemmas.List.{append-nil}
 use Rattle.properties_tree.specs.Characters.{is_line_end}
-use Rattle.properties_tree.specs.Lines.{Line, begins_with_lf, lines_of, with_text, with_ending, goes_on}
-use Rattle.properties_tree.specs.Entries.{Properties, entries_of, grouped, logical_lines}
+use Rattle.properties_tree.specs.Lines.{Line, begins_with_lf, lines_of}
+use Rattle.properties_tree.specs.Entries.{entries_of, grouped, logical_lines}
 use Rattle.properties_tree.specs.Sizes.{text_length, ending_length, entries_from}
 
 -- the line end that a text begins with, and the lines behind it

@@ -1,22 +1,20 @@
 -- One line more of a file, and its end.
-use Rattle.std.proofs.Common.{◌≡◌, ℕ, zero, suc, ◌+◌, ◌-◌, ◌*◌, ◌<◌, ◌≤◌, ◌^◌, Bool, true, false, List, [], ◌∷◌, ◌++◌, length, take, drop, refl, sym, ◌∙◌, ap, subst, arith, length-append, length-take, length-drop, append_assoc, add-zero, append-nil, zero-add}
+use Rattle.std.proofs.Common.{◌≡◌, ℕ, zero, suc, ◌+◌, ◌-◌, ◌*◌, ◌≤◌, List, [], ◌∷◌, ◌++◌, length, take, drop, refl, sym, ◌∙◌, ap, subst, arith, length-append, length-drop, append_assoc, add-zero, append-nil, zero-add}
 use Rattle.std.proofs.Math.Seq.{take-add}
-use Rattle.std.proofs.lemmas.List.{drop-drop, length-take-le, take_rest, length_push, drop_all}
+use Rattle.std.proofs.lemmas.List.{drop-drop, length-take-le, length_push, drop_all}
 use Rattle.rw_base.specs.declared.tree.Leaf.{Leaf}
-use Rattle.rw_base.specs.declared.tree.NodeId.{NodeId}
 use Rattle.rw_base.specs.declared.tree.NodeRow.{NodeRow}
 use Rattle.rw_base.specs.declared.tree.Part.{Part}
 use Rattle.rw_base.specs.declared.tree.Part.TheVariants as part
-use Rattle.properties_tree.specs.Entries.{Entry, Piece, Properties, properties_of, entries_of, grouped, logical_lines, raw}
+use Rattle.properties_tree.specs.Entries.{Entry, Properties, properties_of, entries_of, grouped, raw}
 use Rattle.properties_tree.specs.Lines.{lines_of}
 use Rattle.properties_tree.specs.Layout.{leaves_from, leaf_from, entry_leaves, entry_end, entry_row, entry_rows, entry_parts, file_row, tree_of}
 use Rattle.properties_tree.specs.Reading.{IsRead, leaves_at, left_of, numbered_parts}
 use Rattle.properties_tree.specs.Sizes.{entries_from, with_entry, whole_size, BeginsPassed, BeginsEntry}
 use Rattle.properties_tree.specs.declared.reader.Sizes.{Sizes}
-use Rattle.rw_base.specs.Arena.{Arena, IsTree}
+use Rattle.rw_base.specs.Arena.{IsTree}
 use Rattle.properties_tree.specs.declared.layout.TheConstants.{END, FILE}
 use Rattle.properties_tree.proofs.Made.{tree_made}
-use Rattle.properties_tree.proofs.Lengths.{has_backslash, none_in_drop}
 
 -- ---- parts
 

@@ -1,13 +1,11 @@
 -- What a file's tree has of its entries.
-use Rattle.std.proofs.Common.{◌≡◌, ℕ, suc, ◌+◌, ◌-◌, ◌*◌, ◌<◌, ◌≤◌, ◌^◌, Bool, true, false, List, length, take, drop, refl, sym, ◌∙◌, ap, subst, arith}
-use Rattle.std.specs.Prelude.{slice_range}
+use Rattle.std.proofs.Common.{◌≡◌, ℕ, ◌+◌, ◌*◌, ◌<◌, List, length, sym, ◌∙◌, ap}
 use Rattle.rw_base.specs.Arena.{Arena, first_of, past_of, end_of, leaf_at, text_of}
 use Rattle.properties_tree.specs.Entries.{properties_of, raw}
-use Rattle.properties_tree.specs.Decoding.{key_text, entry_at}
+use Rattle.properties_tree.specs.Decoding.{entry_at}
 use Rattle.properties_tree.specs.Layout.{tree_of}
 use Rattle.rw_base.specs.declared.tree.NodeRow.{NodeRow}
 use Rattle.properties_tree.proofs.Made.{entry_at as entry_at_row}
-use Rattle.properties_tree.proofs.Lengths.{has_backslash, none_in_take, none_in_drop}
 use Rattle.properties_tree.proofs.Whole.{key_leaf_text, value_leaf_text, end_of-tree_of, leaves-tree_of, nodes-tree_of}
 use Rattle.properties_tree.proofs.Marked.{plain_key}
 use Rattle.properties_tree.proofs.Alone.{key_said, value_said}

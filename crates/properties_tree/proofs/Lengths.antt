@@ -1,12 +1,11 @@
 -- One byte more of a text, as the reader's loops go over it.
-use Rattle.std.proofs.Common.{◌≡◌, ℕ, suc, ◌+◌, ◌-◌, ◌<◌, ◌≤◌, Bool, true, false, List, [], ◌∷◌, length, get_or, take, drop, refl, sym, ◌∙◌, ap, arith, inl, inr, length-drop, zero}
-use Rattle.std.specs.Prelude.{◌==◌, ◌||◌}
+use Rattle.std.proofs.Common.{◌≡◌, ℕ, suc, ◌+◌, ◌<◌, ◌≤◌, Bool, true, false, List, [], ◌∷◌, length, get_or, take, drop, refl, ◌∙◌, ap, arith, inl, inr, zero}
+use Rattle.std.specs.Prelude.{◌==◌}
 use Rattle.std.specs.List.{list_any}
-use Rattle.std.proofs.lemmas.List.{at_drop_more, at_drop_all, take_rest}
-use Rattle.std.proofs.lemmas.Bool.{or_parts, or_from, cases_Bool, false≢true}
-use Rattle.properties_tree.specs.Characters.{is_line_end, is_blank, ends_key}
+use Rattle.std.proofs.lemmas.List.{at_drop_more, at_drop_all}
+use Rattle.std.proofs.lemmas.Bool.{or_parts, or_from, cases_Bool}
+use Rattle.properties_tree.specs.Characters.{is_line_end, is_blank}
 use Rattle.properties_tree.specs.Lines.{leading_blanks, unblanked}
-use Rattle.properties_tree.specs.Entries.{key_length, begins_with_separator, separator_length}
 use Rattle.properties_tree.specs.Sizes.{text_length}
 
 module _ (s : List ℕ) (i : ℕ) (inside : i < length s) where

@@ -14,3 +14,5 @@ pub mod Loops
 pub mod First
 pub mod Decoded
 pub mod Alone
+pub mod ValueSpelling
+pub mod ReadBack

@@ -1,19 +1,19 @@
 -- A logical line's pieces are those of its natural lines.
-use Rattle.std.proofs.Common.{◌≡◌, ℕ, zero, suc, ◌+◌, ◌-◌, ◌<◌, ◌≤◌, Bool, true, false, List, [], ◌∷◌, ◌++◌, length, get_or, take, drop, refl, sym, ◌∙◌, ap, subst, arith, inl, inr, append_assoc, append-nil, length-append, length-take, length-drop}
-use Rattle.std.specs.Prelude.{◌==◌, ◌||◌, ◌&&◌, not, if◌then◌else◌, ◌%◌}
+use Rattle.std.proofs.Common.{◌≡◌, ℕ, zero, suc, ◌+◌, ◌≤◌, Bool, true, false, List, [], ◌∷◌, ◌++◌, length, take, drop, refl, sym, ◌∙◌, ap, arith, inl, inr, append_assoc, length-append}
+use Rattle.std.specs.Prelude.{◌==◌, ◌||◌, if◌then◌else◌, ◌%◌}
 use Rattle.std.proofs.Math.Seq.{take-add, drop-append-add}
-use Rattle.std.proofs.lemmas.Bool.{cases_Bool, false≢true, eqb-true, eqb-false, eq-eqb, ne_eqb, or_parts, or_cases}
-use Rattle.std.proofs.lemmas.List.{take-append-drop, take_at, drop_at, drop-drop, length-take-le, append_cancel_left}
-use Rattle.properties_tree.specs.Characters.{is_line_end, is_blank, is_separator, ends_key, backslash}
-use Rattle.properties_tree.specs.Lines.{Line, leading_blanks, unblanked, begins_with_lf, goes_on, is_odd, backslashes_behind, lines_of, is_empty_or_comment}
-use Rattle.properties_tree.specs.Entries.{Logical, passed, entry, Piece, char, joint, raw, meant, chars, without_last, Joined, joined, grouped, logical_lines, through, behind, Entry, entry_of, Properties, entries_of, key_length, separator_length, begins_with_separator}
-use Rattle.properties_tree.specs.Sizes.{text_length, ending_length, entries_from, with_entry}
-use Rattle.properties_tree.specs.Cutting.{joins, joint_size, pieces_in, key_front, separator_front, separator_from, key_size, separator_size, line_size}
-use Rattle.properties_tree.proofs.Lengths.{unblanked_is, leading_is, blanks-le}
-use Rattle.properties_tree.proofs.FirstLine.{line_text, behind_text, ending_text, lines_behind, line_of, first_line, at_end as nothing_behind, entries_behind}
-use Rattle.properties_tree.proofs.Plain.{raw-chars, grouped-none, grouped-begins, joined-plain}
-use Rattle.properties_tree.proofs.Whole.{raw-append, ends_in_backslash, goes_on-unblanked, one_less, through-behind, blanks_first}
-use Rattle.properties_tree.proofs.Cut.{at_none, at_end, at_char, at_pair, at_joint, cut, IsFront, line_front, key_is_front, separator_is_front, pieces-behind, pieces-alone, front_length}
+use Rattle.std.proofs.lemmas.Bool.{cases_Bool, eqb-true, eqb-false, eq-eqb, ne_eqb, or_cases}
+use Rattle.std.proofs.lemmas.List.{take-append-drop, drop-drop, length-take-le}
+use Rattle.properties_tree.specs.Characters.{is_line_end, is_blank, backslash}
+use Rattle.properties_tree.specs.Lines.{Line, leading_blanks, unblanked, goes_on, is_odd, backslashes_behind}
+use Rattle.properties_tree.specs.Entries.{Logical, Piece, char, joint, raw, chars, without_last, Joined, joined, grouped, logical_lines}
+use Rattle.properties_tree.specs.Sizes.{text_length, ending_length}
+use Rattle.properties_tree.specs.Cutting.{joins, joint_size, pieces_in, line_size}
+use Rattle.properties_tree.proofs.Lengths.{unblanked_is, leading_is}
+use Rattle.properties_tree.proofs.FirstLine.{line_text, behind_text, ending_text, lines_behind, line_of, first_line, at_end as nothing_behind}
+use Rattle.properties_tree.proofs.Plain.{raw-chars, grouped-none, joined-plain}
+use Rattle.properties_tree.proofs.Whole.{raw-append, ends_in_backslash, goes_on-unblanked, one_less, blanks_first}
+use Rattle.properties_tree.proofs.Cut.{at_none, at_end, at_char, at_pair, at_joint}
 
 -- ---- one natural line
 

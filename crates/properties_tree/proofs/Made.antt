@@ -1,16 +1,13 @@
 -- The leaves and nodes of a properties file are a tree.
-use Rattle.std.proofs.Common.{◌≡◌, ℕ, zero, suc, ◌+◌, ◌-◌, ◌*◌, ◌<◌, ◌≤◌, ◌^◌, Bool, true, false, eqb, List, [], ◌∷◌, ◌++◌, length, get_or, refl, sym, ◌∙◌, ap, subst, inl, inr, arith, length-append, add-zero}
+use Rattle.std.proofs.Common.{◌≡◌, ℕ, zero, suc, ◌+◌, ◌-◌, ◌*◌, ◌<◌, ◌≤◌, ◌^◌, List, [], ◌∷◌, ◌++◌, length, get_or, refl, sym, ◌∙◌, ap, subst, inl, inr, arith, length-append, add-zero}
 use Rattle.std.specs.Prelude.{if◌then◌else◌, ◌==◌}
 use Rattle.std.proofs.lemmas.List.{get_or_at}
 use Rattle.std.proofs.lemmas.Bool.{cases_lt, cases_eq, eq-eqb, ne_eqb}
-use Rattle.rw_base.specs.declared.tree.Leaf.{Leaf}
-use Rattle.rw_base.specs.declared.tree.Part.{Part}
 use Rattle.rw_base.specs.declared.tree.Part.TheVariants as part
 use Rattle.rw_base.specs.declared.tree.NodeRow.{NodeRow}
-use Rattle.rw_base.specs.Arena.{Arena, IsTree, Tile, AreBelow, Runs, times, times_in, end_from, end_of, leaf_at, row_at, no_leaf, no_row, first_of, past_of, parts_of}
+use Rattle.rw_base.specs.Arena.{IsTree, Tile, AreBelow, Runs, times, times_in, end_from, leaf_at, row_at, no_leaf, no_row}
 use Rattle.properties_tree.specs.Entries.{Entry, raw}
-use Rattle.properties_tree.specs.Layout.{leaves_from, leaf_from, entry_leaves, entry_end, entry_row, entry_rows, entry_parts, file_row}
-use Rattle.properties_tree.specs.declared.layout.TheConstants.{KEY, SEPARATOR, VALUE, ENDING, END, FILE, ENTRY}
+use Rattle.properties_tree.specs.Layout.{leaves_from, entry_end, entry_row, entry_rows, entry_parts, file_row}
 
 -- ---- leaves
 

@@ -1,16 +1,12 @@
 -- Lines that are passed over, and lines that end.
-use Rattle.std.proofs.Common.{◌≡◌, ℕ, zero, suc, ◌+◌, ◌-◌, ◌<◌, ◌≤◌, Bool, true, false, List, [], ◌∷◌, ◌++◌, length, get_or, take, drop, map, refl, sym, ◌∙◌, ap, subst, arith, inl, inr, length-take, length-drop, append_assoc}
-use Rattle.std.specs.Prelude.{◌==◌, ◌||◌, if◌then◌else◌}
+use Rattle.std.proofs.Common.{◌≡◌, ℕ, ◌+◌, true, false, List, [], ◌∷◌, ◌++◌, take, drop, refl, sym, ◌∙◌, ap, inl, inr}
 use Rattle.std.proofs.Math.Seq.{take-add}
-use Rattle.std.proofs.lemmas.Bool.{cases_Bool, or_parts}
-use Rattle.std.proofs.lemmas.List.{take_rest, take-take, drop-drop, length-take-le}
-use Rattle.properties_tree.specs.Characters.{is_blank, backslash}
-use Rattle.properties_tree.specs.Lines.{Line, goes_on, backslashes_behind, is_odd, leading_blanks, unblanked, is_empty_or_comment, is_passed_over, lines_of}
-use Rattle.properties_tree.specs.Entries.{Piece, char, joint, passed, entry, Logical, raw, meant, chars, Joined, joined, Entry, entry_of, Properties, entries_of, grouped, logical_lines, key_length, separator_length, through, behind}
-use Rattle.properties_tree.specs.Sizes.{text_length, ending_length, entries_from, with_entry, whole_size, BeginsPassed, BeginsEntry}
-use Rattle.properties_tree.specs.declared.reader.Sizes.{Sizes}
-use Rattle.properties_tree.proofs.FirstLine.{line_text, behind_text, ending_text, lines_behind, line_of, first_line, at_end, some_line, entries_behind}
-use Rattle.properties_tree.proofs.Lengths.{has_backslash, none_in_take, none_in_drop, unblanked_is, leading_is, blanks-le}
+use Rattle.std.proofs.lemmas.Bool.{cases_Bool}
+use Rattle.std.proofs.lemmas.List.{drop-drop}
+use Rattle.properties_tree.specs.Lines.{Line, goes_on, unblanked, is_empty_or_comment, is_passed_over}
+use Rattle.properties_tree.specs.Entries.{passed, entry, Logical, raw, meant, chars, joined, entries_of, grouped, logical_lines}
+use Rattle.properties_tree.specs.Sizes.{text_length, ending_length, entries_from}
+use Rattle.properties_tree.proofs.FirstLine.{line_text, behind_text, ending_text, lines_behind, line_of, first_line, at_end, entries_behind}
 
 -- ---- lines that go on nowhere
 

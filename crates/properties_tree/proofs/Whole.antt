@@ -1,14 +1,14 @@
 -- The leaves of a properties file, one behind another, are its bytes.
-use Rattle.std.proofs.Common.{◌≡◌, ℕ, zero, suc, ◌+◌, ◌-◌, ◌*◌, ◌<◌, ◌≤◌, Bool, true, false, List, [], ◌∷◌, ◌++◌, length, get_or, take, drop, refl, sym, ◌∙◌, ap, subst, arith, inl, inr, length-append, append_assoc, append-nil, add-zero}
-use Rattle.std.specs.Prelude.{◌==◌, ◌||◌, if◌then◌else◌, slice_range}
+use Rattle.std.proofs.Common.{◌≡◌, ℕ, zero, suc, ◌+◌, ◌-◌, ◌*◌, ◌<◌, Bool, true, false, List, [], ◌∷◌, ◌++◌, length, get_or, take, drop, refl, sym, ◌∙◌, ap, arith, inl, inr, length-append, append_assoc, append-nil, add-zero}
+use Rattle.std.specs.Prelude.{◌==◌, slice_range}
 use Rattle.std.proofs.lemmas.Bool.{cases_Bool, false≢true, eqb-true, ne_eqb}
 use Rattle.std.proofs.lemmas.List.{take_at, drop_at}
-use Rattle.rw_base.specs.declared.tree.Leaf.{Leaf}
-use Rattle.rw_base.specs.Arena.{Arena, end_from, end_of, leaf_at, no_leaf, text_of}
+use Rattle.rw_base.specs.Arena.{end_from, end_of, leaf_at, text_of}
 use Rattle.properties_tree.specs.Characters.{is_blank, backslash}
 use Rattle.properties_tree.specs.Lines.{Line, whole_line, begins_with_lf, lines_of, with_text, with_ending, leading_blanks, unblanked, is_passed_over, goes_on, backslashes_behind, is_odd}
-use Rattle.properties_tree.specs.Entries.{Logical, passed, entry, grouped, logical_lines, Piece, char, joint, raw, chars, without_last, Joined, joined, through, behind, Entry, entry_of, key_length, separator_length, meant, Properties, entries_of, properties_of, no_entry}
-use Rattle.properties_tree.specs.Layout.{leaves_from, leaf_from, entry_leaves, entry_end, tree_of}
+use Rattle.properties_tree.specs.Entries.{Logical, grouped, Piece, char, joint, raw, chars, without_last, Joined, joined, through, behind, Entry, entry_of, key_length, separator_length, meant, Properties, entries_of, properties_of, no_entry}
+use Rattle.properties_tree.specs.Laws.{whole_entry, whole_of}
+use Rattle.properties_tree.specs.Layout.{leaves_from, entry_end, tree_of}
 use Rattle.properties_tree.proofs.Made.{four_more, ending_to, ending_to-is, length-leaves_from, length-nodes}
 use Rattle.properties_tree.specs.Decoding.{entry_at}
 use Rattle.properties_tree.proofs.Plain.{raw-chars, grouped-none, grouped-passed, grouped-begins}
@@ -135,13 +135,6 @@ whole-joined text ending true (next ∷ lines) e =
     ∙ ap (λ t. (text ++ ending) ++ ((t ++ next.ending) ++ whole_lines more)) (sym (blanks_first next.text))))))
 
 -- ---- what stands in entries
-
-abbrev pub whole_entry : Entry → List ℕ
-whole_entry e = e.prefix ++ (raw e.key ++ (raw e.separator ++ (raw e.value ++ e.ending)))
-
-abbrev pub whole_of : List Entry → List ℕ → List ℕ
-whole_of [] rest = rest
-whole_of (e ∷ es) rest = whole_entry e ++ whole_of es rest
 
 abbrev whole : Properties → List ℕ
 whole p = whole_of p.entries p.rest

@@ -1,7 +1,7 @@
 -- What a key or a value says: escapes decoded.
 use Rattle.std.specs.Prelude.{ℕ, zero, suc, ◌+◌, ◌-◌, ◌*◌, ◌==◌, ◌&&◌, nat_le, Bool, List, [], ◌∷◌, ◌++◌, Option, Some, None, encode_utf8, slice_index_or, if◌then◌else◌}
 use Rattle.properties_tree.specs.Characters.{backslash}
-use Rattle.properties_tree.specs.Entries.{Entry, Piece, Properties, properties_of, no_entry, meant}
+use Rattle.properties_tree.specs.Entries.{Entry, properties_of, no_entry, meant}
 
 -- a byte of the text, or the UTF-16 code unit that an escape names
 pub data Element : Type 0 where

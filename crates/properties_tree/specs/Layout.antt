@@ -3,12 +3,11 @@
 use Rattle.std.specs.Prelude.{ℕ, ◌+◌, ◌*◌, List, [], ◌∷◌, ◌++◌, length}
 use Rattle.rw_base.specs.Arena.{Arena}
 use Rattle.rw_base.specs.declared.tree.Leaf.{Leaf}
-use Rattle.rw_base.specs.declared.tree.NodeId.{NodeId}
 use Rattle.rw_base.specs.declared.tree.NodeRow.{NodeRow}
 use Rattle.rw_base.specs.declared.tree.Part.{Part}
 use Rattle.rw_base.specs.declared.tree.Part.TheVariants as part
 use Rattle.properties_tree.specs.declared.layout.TheConstants.{KEY, SEPARATOR, VALUE, ENDING, END, FILE, ENTRY}
-use Rattle.properties_tree.specs.Entries.{Entry, Piece, Properties, properties_of, raw}
+use Rattle.properties_tree.specs.Entries.{Entry, properties_of, raw}
 
 -- a leaf that begins at a byte
 abbrev pub leaf_from : ℕ → List ℕ → List ℕ → ℕ → Leaf

@@ -9,3 +9,4 @@ pub mod Reading
 pub mod Refusal
 pub mod Cutting
 pub mod Steps
+pub mod Laws

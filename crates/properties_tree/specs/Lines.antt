@@ -1,5 +1,5 @@
 -- Natural lines: a text cut at its line ends.
-use Rattle.std.specs.Prelude.{ℕ, zero, suc, ◌+◌, ◌==◌, ◌%◌, ◌||◌, Bool, true, false, List, [], ◌∷◌, ◌++◌, if◌then◌else◌}
+use Rattle.std.specs.Prelude.{ℕ, ◌+◌, ◌==◌, ◌%◌, Bool, true, false, List, [], ◌∷◌, ◌++◌, if◌then◌else◌}
 use Rattle.properties_tree.specs.Characters.{is_blank, is_comment_mark, backslash}
 
 -- A natural line: its text, and LF, CR LF or CR behind it. The last line of a file has none.

@@ -1,7 +1,6 @@
 -- How far a file is read: which leaves and nodes stand, and which are still to come.
 use Rattle.std.specs.Prelude.{◌≡◌, ℕ, zero, suc, ◌+◌, ◌-◌, ◌*◌, ◌≤◌, List, [], ◌∷◌, ◌++◌, length, take, drop}
 use Rattle.rw_base.specs.declared.tree.Leaf.{Leaf}
-use Rattle.rw_base.specs.declared.tree.NodeId.{NodeId}
 use Rattle.rw_base.specs.declared.tree.NodeRow.{NodeRow}
 use Rattle.rw_base.specs.declared.tree.Part.{Part}
 use Rattle.rw_base.specs.declared.tree.Part.TheVariants as part

@@ -3,6 +3,7 @@
 
 mod bytes;
 mod decoding;
+mod laws;
 mod layout;
 mod lines;
 mod option;
@@ -13,8 +14,9 @@ mod spelling;
 mod tests;
 mod tree;
 
+pub use laws::{keys_read_back, parts_are_the_file};
 pub use layout::{END, ENDING, ENTRY, FILE, KEY, SEPARATOR, VALUE};
 pub use option::PropertiesChangePropertyKey;
 pub use reader::{MOST_BYTES, read_properties};
-pub use spelling::spell_key;
+pub use spelling::{spell_key, spell_value};
 pub use tree::{entry_count, has_key, key_leaf, key_of, value_of};

@@ -1,9 +1,10 @@
 // Natural lines.
 ghost use Rattle.std.specs.Prelude.{◌≡◌, ◌≤◌, length};
 ghost use Rattle.properties_tree.specs.Lines.{leading_blanks};
+ghost use Rattle.properties_tree.specs.Entries.{begins_with_separator};
 ghost use Rattle.properties_tree.specs.Sizes.{text_length, ending_length, begins_no_entry};
 
-use crate::bytes::{is_blank, is_comment_mark, is_line_end};
+use crate::bytes::{is_blank, is_comment_mark, is_line_end, is_separator};
 
 #[tactic(auto, using(crate::proofs::Lengths::over_text))]
 pub fn text_length(text: &[u8]) -> usize
@@ -49,5 +50,14 @@ pub fn begins_no_entry(text: &[u8]) -> bool
     match text {
         [] => true,
         [b, ..] => is_line_end(*b) || is_comment_mark(*b),
+    }
+}
+
+pub fn begins_with_separator(text: &[u8]) -> bool
+    ensures { result ≡ begins_with_separator text.now }
+{
+    match text {
+        [] => false,
+        [b, ..] => is_separator(*b),
     }
 }

@@ -3,7 +3,8 @@ ghost use Rattle.std.specs.Prelude.{◌≡◌};
 ghost use Rattle.properties_tree.specs.Layout.{tree_of};
 
 use crate::{
-    MOST_BYTES, entry_count, has_key, key_leaf, key_of, read_properties, spell_key, value_of,
+    MOST_BYTES, entry_count, has_key, key_leaf, key_of, read_properties, spell_key, spell_value,
+    value_of,
 };
 use rw_base::{Cause, Mem, NodeId, ReadFault, Tree};
 use std::alloc::Global;
@@ -185,6 +186,19 @@ fn keys_and_limits(rt: HostRuntime) -> Result<(), Fail> {
         spelled.as_slice(),
         "a\\ b\\=c\\:\\#\\!\\\\\\t\\n\\r\\fé".as_bytes()
     );
+    let table = [
+        ("", ""),
+        ("a b", "a b"),
+        (" \t x ", "\\ \\t x "),
+        ("=a=b", "\\=a=b"),
+        (":", "\\:"),
+        ("  =", "\\ \\ ="),
+        ("#!\\\n\r\x0cé", "#!\\\\\\n\\r\\fé"),
+    ];
+    for (text, want) in table {
+        let spelled = spell_value(alloc, text.as_bytes())?;
+        assert_eq!(rt; spelled.as_slice(), want.as_bytes(), "spelling of {text}");
+    }
     let most = vec![in alloc; b'a'; MOST_BYTES]?;
     let most = most.as_slice();
     let tree = read_properties(alloc, most)?;

@@ -1,5 +1,5 @@
 -- The files after the changes of a run are put: at each path what the definition gives.
-use Rattle.std.proofs.Common.{◌≡◌, ℕ, Bool, true, false, cond, List, [], ◌∷◌, ◌++◌, ◌||◌, IsTrue, Option, None, Some, is_some, refl, sym, ap, subst, ◌∙◌, ◌⊎◌, inl, inr, if◌then◌else◌, length}
+use Rattle.std.proofs.Common.{◌≡◌, ℕ, Bool, true, false, cond, List, [], ◌∷◌, ◌++◌, ◌||◌, Option, None, Some, is_some, refl, sym, ap, subst, ◌∙◌, ◌⊎◌, inl, inr, if◌then◌else◌, length}
 use Rattle.std.proofs.lemmas.List.{length-map}
 use Rattle.std.specs.Option.{option_map}
 use Rattle.std.specs.List.{list_any}
@@ -14,7 +14,6 @@ use Rattle.std.specs.Str.{bytes_eq}
 use Rattle.rw_host.specs.Files.{Files}
 use Rattle.rewrite_cli.specs.Renaming.{bytes_after}
 use Rattle.rewrite_cli.specs.Changes.{change_at, changes_at, changes_of, put_all, AreRewritten}
-use Rattle.std.proofs.lemmas.Grind.{common_steps}
 
 abbrev cmp : List ℕ → List ℕ → Ordering
 cmp = slice_cmp nat_cmp

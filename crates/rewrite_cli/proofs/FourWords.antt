@@ -1,5 +1,5 @@
 -- A list of four.
-use Rattle.std.proofs.Common.{◌≡◌, ℕ, ◌<◌, ◌≤◌, List, [], ◌∷◌, length, get_or, map, refl, sym, ap, subst, ◌∙◌, arith, Bool, true, false, Option, None, Some, codes}
+use Rattle.std.proofs.Common.{◌≡◌, ℕ, ◌<◌, ◌≤◌, List, [], ◌∷◌, length, get_or, map, refl, sym, ap, subst, ◌∙◌, arith, true, false, None, Some, codes}
 use Rattle.std.specs.Str.{bytes_eq}
 use Rattle.rewrite_cli.specs.Words.{keys_of, recipe_name}
 

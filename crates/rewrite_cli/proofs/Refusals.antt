@@ -1,6 +1,6 @@
 -- What one file adds to the changes and the refusals of a run.
-use Rattle.std.proofs.Common.{◌≡◌, ℕ, suc, Bool, ◌||◌, ◌&&◌, ◌<◌, ◌≤◌, ◌+◌, true, false, List, [], ◌∷◌, ◌++◌, length, take, drop, get_or, Option, None, Some, refl, sym, ap, subst, ◌∙◌, arith, inl, inr, add-one, drop-cons, if◌then◌else◌}
-use Rattle.std.specs.Prelude.{is_none, unwrap_or}
+use Rattle.std.proofs.Common.{◌≡◌, ℕ, Bool, ◌||◌, ◌&&◌, ◌<◌, ◌+◌, true, false, List, [], ◌∷◌, ◌++◌, length, take, drop, get_or, Option, None, Some, refl, sym, ap, subst, ◌∙◌, arith, inl, inr, add-one, drop-cons, if◌then◌else◌}
+use Rattle.std.specs.Prelude.{is_none}
 use Rattle.std.specs.Option.{option_map}
 use Rattle.std.specs.Str.{bytes_eq}
 use Rattle.std.specs.FinMap as map
@@ -10,12 +10,9 @@ use Rattle.std.proofs.lemmas.Bool.Decides.{nat_tests}
 use Rattle.rw_host.specs.Files.{Files, SameElsewhere, first_bytes, all_bytes, length-first_bytes}
 use Rattle.properties_tree.specs.declared.reader.TheConstants.{MOST_BYTES}
 use Rattle.rewrite_cli.specs.declared.changes.Change.{Change}
-use Rattle.rewrite_cli.specs.declared.renaming.Outcome.{Outcome}
-use Rattle.rewrite_cli.specs.declared.renaming.Outcome.TheVariants.{Refused, Kept, Changed}
 use Rattle.rewrite_cli.specs.Paths.{is_properties}
 use Rattle.rewrite_cli.specs.Renaming.{new_bytes, is_refused, bytes_after}
-use Rattle.rewrite_cli.specs.Changes.{PathChange, change_at, is_refused_at, put_all, IsPart, StopsAt}
-use Rattle.rewrite_cli.specs.Outcomes.{bytes_told}
+use Rattle.rewrite_cli.specs.Changes.{PathChange, change_at, is_refused_at, put_all, IsPart}
 use Rattle.rewrite_cli.specs.Pairs.{pairs}
 use Rattle.rewrite_cli.proofs.Outcomes.{too_large}
 

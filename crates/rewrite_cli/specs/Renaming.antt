@@ -1,5 +1,5 @@
 -- What a run makes of a file.
-use Rattle.std.specs.Prelude.{ℕ, Bool, true, false, ◌||◌, ◌&&◌, nat_lt, List, length, Option, None, Some, is_none, unwrap_or, if◌then◌else◌}
+use Rattle.std.specs.Prelude.{ℕ, Bool, ◌||◌, ◌&&◌, nat_lt, List, length, Option, None, Some, is_none, unwrap_or, if◌then◌else◌}
 use Rattle.rw_base.specs.NewText.{new_text}
 use Rattle.properties_tree.specs.declared.option.PropertiesChangePropertyKey.{PropertiesChangePropertyKey}
 use Rattle.properties_tree.specs.declared.reader.TheConstants.{MOST_BYTES}

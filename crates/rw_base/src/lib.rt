@@ -4,6 +4,7 @@
 mod edit;
 mod memory;
 mod place;
+mod reading;
 mod rearranging;
 mod text;
 mod tree;
@@ -11,6 +12,7 @@ mod tree;
 pub use edit::{Edit, Item, Spot};
 pub use memory::{Mem, NoMemory};
 pub use place::{Cause, Place, ReadFault, Refused, place_of};
+pub use reading::Reading;
 pub use rearranging::rearranged;
 pub use text::Text;
 pub use tree::{Leaf, NodeId, NodeRow, Part, Tree, print};

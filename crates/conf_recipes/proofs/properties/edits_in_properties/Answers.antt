@@ -1,4 +1,4 @@
-use Rattle.std.proofs.Common.{◌≡◌, ◌<◌, ◌+◌, ◌++◌, ◌∷◌, [], length, get_or, sym, ap, subst, ◌∙◌, arith}
+use Rattle.std.proofs.Common.{◌≡◌, ◌<◌, ◌++◌, ◌∷◌, [], length, get_or, sym, ap, subst, ◌∙◌, arith}
 use Rattle.rw_base.specs.NewText.{AreLeafEdits}
 use Rattle.std.specs.Str.{bytes_eq}
 use Rattle.properties_tree.specs.Decoding.{key_text}

@@ -1,4 +1,4 @@
-use Rattle.std.proofs.Common.{◌≡◌, ◌++◌, refl, sym, ap, ◌∙◌, append-nil}
+use Rattle.std.proofs.Common.{◌++◌, sym, ap, ◌∙◌, append-nil}
 use Rattle.properties_tree.specs.Decoding.{text_of}
 use Rattle.properties_tree.specs.Steps.{waiting}
 use Rattle.properties_tree.proofs.Decoded.{no_code}

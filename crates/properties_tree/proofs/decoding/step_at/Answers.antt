@@ -1,7 +1,7 @@
-use Rattle.std.proofs.Common.{◌≡◌, List, ℕ, ◌+◌, ◌-◌, ◌<◌, ◌≤◌, length, get_or, take, drop, refl, sym, ap, subst, ◌∙◌, arith, [], ◌∷◌}
+use Rattle.std.proofs.Common.{◌≡◌, ℕ, ◌+◌, ◌-◌, ◌<◌, ◌≤◌, length, take, drop, sym, ap, ◌∙◌, arith, [], ◌∷◌}
 use Rattle.std.proofs.lemmas.Bool.{eq-eqb, ne_eqb}
 use Rattle.std.proofs.lemmas.List.{take_rest, nil_from_length, length-drop}
-use Rattle.properties_tree.specs.Decoding.{Element, byte, code, escape_of, escaped, four_hex}
+use Rattle.properties_tree.specs.Decoding.{byte, code, escape_of, four_hex}
 use Rattle.properties_tree.proofs.Decoded.{step_byte, step_nothing, step_escape, escape_other, escape_unicode, escape_u}
 use Rattle.properties_tree.proofs.decoding.step_at.Goals as goal
 

@@ -1,7 +1,7 @@
-use Rattle.std.proofs.Common.{◌≡◌, List, ℕ, length, take, drop, refl, sym, ap, subst, ◌∙◌, arith, ◌+◌}
+use Rattle.std.proofs.Common.{sym, ap, ◌∙◌, arith, ◌+◌}
 use Rattle.std.proofs.lemmas.Bool.{eq-eqb, ne_eqb}
 use Rattle.std.proofs.lemmas.List.{take_rest}
-use Rattle.properties_tree.specs.Cutting.{joins, joint_size, IsPair}
+use Rattle.properties_tree.specs.Cutting.{joins, joint_size}
 use Rattle.properties_tree.proofs.Loops.{next_none, next_end, next_char, next_joint, next_pair}
 use Rattle.properties_tree.proofs.pieces.next_at.Goals as goal
 

@@ -1,4 +1,4 @@
-use Rattle.std.proofs.Common.{◌≡◌, refl, sym, ◌∙◌}
+use Rattle.std.proofs.Common.{sym, ◌∙◌}
 use Rattle.properties_tree.proofs.First.{passed_found, entry_found}
 use Rattle.properties_tree.proofs.reader.first_of.Goals as goal
 

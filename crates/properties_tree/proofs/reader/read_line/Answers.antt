@@ -1,4 +1,4 @@
-use Rattle.std.proofs.Common.{◌≡◌, List, ℕ, length, take, drop, refl, sym, ap, subst}
+use Rattle.std.proofs.Common.{List, ℕ, subst}
 use Rattle.std.proofs.lemmas.List.{take_rest}
 use Rattle.properties_tree.specs.Sizes.{BeginsPassed, BeginsEntry}
 use Rattle.properties_tree.proofs.Goes.{passed_read, entry_read}

@@ -1,4 +1,4 @@
-use Rattle.std.proofs.Common.{length, ◌-◌, ◌≤◌}
+use Rattle.std.proofs.Common.{length, ◌-◌}
 use Rattle.properties_tree.specs.Reading.{IsRead}
 use Rattle.properties_tree.proofs.reader.read_properties.Given as goal
 

@@ -1,5 +1,4 @@
-use Rattle.std.proofs.Common.{◌≡◌, List, ℕ, length, refl, sym, ap, subst, ◌∙◌}
-use Rattle.rw_base.specs.Arena.{IsTree}
+use Rattle.std.proofs.Common.{◌∙◌}
 use Rattle.properties_tree.proofs.Goes.{tree_is, is_tree}
 use Rattle.properties_tree.proofs.reader.tree_read.Goals as goal
 

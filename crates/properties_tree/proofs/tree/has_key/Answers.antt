@@ -1,7 +1,7 @@
 use Rattle.std.proofs.Common.{◌≡◌, sym, ap, ◌∙◌}
 use Rattle.std.proofs.lemmas.Slice.Eq.{slice_eq-Decides}
 use Rattle.std.proofs.lemmas.Bool.Decides.{Decides-eqb}
-use Rattle.properties_tree.specs.Entries.{raw, meant}
+use Rattle.properties_tree.specs.Entries.{meant}
 use Rattle.properties_tree.specs.Cutting.{pieces_in}
 use Rattle.properties_tree.specs.Decoding.{decoded, key_text, entry_at}
 use Rattle.properties_tree.proofs.Lengths.{has_backslash}

@@ -1,4 +1,4 @@
-use Rattle.std.proofs.Common.{◌≡◌, ◌+◌, ◌-◌, ◌*◌, sym, ap, ◌∙◌, arith}
+use Rattle.std.proofs.Common.{◌≡◌, ◌+◌, ◌-◌, ◌*◌, ap, ◌∙◌, arith}
 use Rattle.rw_base.specs.Arena.{text_of, leaf_at}
 use Rattle.properties_tree.proofs.InTree.{past_is, value_is}
 use Rattle.properties_tree.proofs.tree.value_bytes.Goals as goal

@@ -1,6 +1,5 @@
-use Rattle.std.proofs.Common.{◌≡◌, ◌∷◌, ◌++◌, ◌+◌, [], length, take, drop, sym, ap, subst, ◌∙◌, arith, length-append}
+use Rattle.std.proofs.Common.{◌≡◌, ◌∷◌, ◌++◌, ◌+◌, [], length, take, drop, sym, ap, ◌∙◌, arith, length-append}
 use Rattle.std.specs.Vec.Iter.{into_iter_items}
-use Rattle.rw_host.specs.Files.{Files}
 use Rattle.rewrite_cli.specs.Changes.{put_all}
 use Rattle.rewrite_cli.specs.Pairs.{pairs}
 use Rattle.rewrite_cli.proofs.Refusals.{IsNext, pairs-cons, next_change, made_more, stopped}

@@ -1,0 +1,31 @@
+-- What holds of every file, key and value.
+use Rattle.std.specs.Prelude.{◌≡◌, ℕ, List, [], ◌∷◌, ◌++◌, length, ◌<◌}
+use Rattle.properties_tree.specs.Entries.{Entry, properties_of, raw}
+use Rattle.properties_tree.specs.Decoding.{key_text, entry_at}
+use Rattle.properties_tree.specs.Spelling.{spelled_key}
+
+-- an entry as it stands in its file
+abbrev pub whole_entry : Entry → List ℕ
+whole_entry e = e.prefix ++ (raw e.key ++ (raw e.separator ++ (raw e.value ++ e.ending)))
+
+-- entries as they stand, and what stands behind them
+abbrev pub whole_of : List Entry → List ℕ → List ℕ
+whole_of [] rest = rest
+whole_of (e ∷ es) rest = whole_entry e ++ whole_of es rest
+
+-- The parts of the entries and the rest, joined, are the bytes.
+abbrev pub PartsAreTheFile : Type 0
+PartsAreTheFile = (bytes : List ℕ) → whole_of (properties_of bytes).entries (properties_of bytes).rest ≡ bytes
+
+-- A text begins with an entry that has this key.
+pub record BeginsWithKey (text key : List ℕ) : Type 0 where
+  pub some : 0 < length (properties_of text).entries
+  pub same : key_text (entry_at text 0) ≡ key
+
+-- A key that is spelled reads back as that key, whatever stands behind the separator.
+abbrev pub KeysReadBack : ℕ → Type 0
+KeysReadBack separator = (key text : List ℕ) → BeginsWithKey (spelled_key key ++ separator ∷ text) key
+
+-- The same for what may stand behind a key that isn't empty.
+abbrev pub SomeKeysReadBack : ℕ → Type 0
+SomeKeysReadBack separator = (key text : List ℕ) → 0 < length key → BeginsWithKey (spelled_key key ++ separator ∷ text) key
