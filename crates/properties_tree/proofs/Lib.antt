@@ -16,3 +16,4 @@ pub mod Decoded
 pub mod Alone
 pub mod ValueSpelling
 pub mod ReadBack
+pub mod ValueBack

@@ -74,7 +74,7 @@ key_grows b _ x front (marked {c = c} inside other says) more = ap key_front (at
 key_grows b _ x front (alone inside other key comment) more = ap key_front (at_char b x inside other) ∙ (rw (other, key) refl ∙ ap (λ ps. char b ∷ ps) more)
 
 module _ (separator : ℕ) (text : List ℕ) (inside : is_line_end separator ≡ false) (other : (separator == 92) ≡ false) (ends : ends_key separator ≡ true) where
-  spelled_front : (key : List ℕ) → key_front (pieces_in (spelled_key key ++ separator ∷ text)) ≡ chars (spelled_key key)
+  pub spelled_front : (key : List ℕ) → key_front (pieces_in (spelled_key key ++ separator ∷ text)) ≡ chars (spelled_key key)
   unfolding spelled_key
   spelled_front [] = ap key_front (at_char separator text inside other) ∙ rw (other, ends) refl
   spelled_front (b ∷ rest) =
@@ -94,9 +94,9 @@ spelled-decoded (b ∷ rest) = ap text_of (says_one b (spelled (is_marked_in_key
 
 -- ---- a line that begins with a spelled key begins an entry
 
-record StartsEntry (s : List ℕ) : Type 0 where
-  blanks : unblanked s ≡ s
-  starts : begins_no_entry s ≡ false
+pub record StartsEntry (s : List ℕ) : Type 0 where
+  pub blanks : unblanked s ≡ s
+  pub starts : begins_no_entry s ≡ false
 
 starts_with : (b : ℕ) (w x : List ℕ) → Way b w → StartsEntry (w ++ x)
 starts_with b _ x (marked inside other says) = record { blanks = refl; starts = refl }
@@ -105,7 +105,7 @@ starts_with b _ x (alone inside other key comment) =
     let blank = parts.1 in
     record { blanks = rw blank refl; starts = or_from (is_line_end b) (is_comment_mark b) inside comment }
 
-some_starts : (separator : ℕ) (text key : List ℕ) → 0 < length key → StartsEntry (spelled_key key ++ separator ∷ text)
+pub some_starts : (separator : ℕ) (text key : List ℕ) → 0 < length key → StartsEntry (spelled_key key ++ separator ∷ text)
 unfolding spelled_key
 some_starts separator text [] some = absurd (omega arith)
 some_starts separator text (b ∷ rest) some =

@@ -1,8 +1,8 @@
 -- What holds of every file, key and value.
 use Rattle.std.specs.Prelude.{◌≡◌, ℕ, List, [], ◌∷◌, ◌++◌, length, ◌<◌}
 use Rattle.properties_tree.specs.Entries.{Entry, properties_of, raw}
-use Rattle.properties_tree.specs.Decoding.{key_text, entry_at}
-use Rattle.properties_tree.specs.Spelling.{spelled_key}
+use Rattle.properties_tree.specs.Decoding.{key_text, value_text, entry_at}
+use Rattle.properties_tree.specs.Spelling.{spelled_key, spelled_value}
 
 -- an entry as it stands in its file
 abbrev pub whole_entry : Entry → List ℕ
@@ -29,3 +29,18 @@ KeysReadBack separator = (key text : List ℕ) → BeginsWithKey (spelled_key ke
 -- The same for what may stand behind a key that isn't empty.
 abbrev pub SomeKeysReadBack : ℕ → Type 0
 SomeKeysReadBack separator = (key text : List ℕ) → 0 < length key → BeginsWithKey (spelled_key key ++ separator ∷ text) key
+
+-- A text begins with an entry that has this value.
+pub record BeginsWithValue (text value : List ℕ) : Type 0 where
+  pub some : 0 < length (properties_of text).entries
+  pub same : value_text (entry_at text 0) ≡ value
+
+-- A value that is spelled reads back as that value, behind any spelled key and this separator, up to the line's end.
+abbrev pub ValuesReadBack : ℕ → Type 0
+ValuesReadBack separator =
+    (key value text : List ℕ) → BeginsWithValue (spelled_key key ++ separator ∷ (spelled_value value ++ 10 ∷ text)) value
+
+-- The same for a blank, behind a key that isn't empty.
+abbrev pub ValuesReadBackBehindSome : ℕ → Type 0
+ValuesReadBackBehindSome separator =
+    (key value text : List ℕ) → 0 < length key → BeginsWithValue (spelled_key key ++ separator ∷ (spelled_value value ++ 10 ∷ text)) value

@@ -14,7 +14,7 @@ mod spelling;
 mod tests;
 mod tree;
 
-pub use laws::{keys_read_back, parts_are_the_file};
+pub use laws::{keys_read_back, parts_are_the_file, values_read_back};
 pub use layout::{END, ENDING, ENTRY, FILE, KEY, SEPARATOR, VALUE};
 pub use option::PropertiesChangePropertyKey;
 pub use reader::{MOST_BYTES, read_properties};

@@ -220,8 +220,9 @@ pub fn read_properties(alloc: Global, bytes: &[u8]) -> Result<Tree, ReadFault>
             cause: Cause::TooLarge,
         }));
     }
-    let mut leaves = Vec::new(alloc);
-    let mut nodes = Vec::new(alloc);
+    // Room for the entries of a file with lines of usual length.
+    let mut leaves = Vec::with_capacity(alloc, bytes.len() / 12)?;
+    let mut nodes = Vec::with_capacity(alloc, bytes.len() / 48)?;
     let mut from = 0;
     let mut at = 0;
     while at < bytes.len() {

@@ -1,6 +1,6 @@
 // Whole runs over a store in memory: what files become, and the statuses.
 use crate::rewrite::rewrite;
-use rw_host::{MemorySink, OpenGate, PathText, SteadyStore, Store};
+use rw_host::{MemorySink, MemoryStore, OpenGate, PathText, SteadyStore, Store};
 use std::alloc::Global;
 use std::process::Abort;
 use std::test::Fail;
@@ -132,5 +132,61 @@ fn an_empty_store_is_done(rt: HostRuntime) -> Result<(), Fail> {
         rewrite(rt.alloc(), &words, &mut store, &mut out, &OpenGate),
         0
     );
+    Ok(())
+}
+
+// Three files with the old key, and a run whose call of this number fails; none does for 0. The status, and how many of
+// the files have the new key then, the first in the order of paths first.
+fn ran_with_fault(rt: &impl Abort, alloc: Global, call: u32) -> Result<(u8, usize), Fail> {
+    let names = ["a.properties", "b/c.properties", "d.properties"];
+    // Putting a file takes two calls.
+    let before = 6;
+    let fail = vec![in alloc;
+        if call == 0 {
+            u32::MAX
+        } else {
+            call.saturating_add(before)
+        },
+    ]?;
+    let mut store = MemoryStore::new(alloc, Vec::new(alloc), fail, 0)?;
+    for name in names {
+        put(alloc, &mut store, name, b"old=1")?;
+    }
+    let mut out = MemorySink::with_room(alloc, 0)?;
+    let words = words_of(alloc, &["run", RECIPE, "old", "new"])?;
+    let status = rewrite(alloc, &words, &mut store, &mut out, &OpenGate);
+    let mut renamed = 0usize;
+    for name in names {
+        let found = store.read(alloc, name, u32::MAX)?;
+        if let Some(bytes) = found {
+            if bytes.as_slice() == b"new=1".as_slice() {
+                renamed = renamed.saturating_add(1);
+            } else {
+                assert!(rt; bytes.as_slice() == b"old=1".as_slice());
+            }
+        }
+    }
+    Ok((status, renamed))
+}
+
+#[test]
+fn each_call_that_fails_is_told(rt: HostRuntime) -> Result<(), Fail> {
+    let table = [
+        ("none", 0, 0, 3),
+        ("list", 1, 4, 0),
+        ("first read", 2, 4, 0),
+        ("second read", 3, 4, 0),
+        ("third read", 4, 4, 0),
+        ("reserve", 5, 4, 0),
+        ("first write", 6, 5, 0),
+        ("second write", 7, 5, 1),
+        ("third write", 8, 5, 2),
+        ("sync", 9, 5, 3),
+    ];
+    for (name, call, status, renamed) in table {
+        let told = ran_with_fault(&rt, rt.alloc(), call)?;
+        assert_eq!(rt; told.0, status, "status where {name} fails");
+        assert_eq!(rt; told.1, renamed, "files renamed where {name} fails");
+    }
     Ok(())
 }

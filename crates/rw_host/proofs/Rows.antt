@@ -13,16 +13,16 @@ use Rattle.rw_host.specs.declared.table.FileRow.{FileRow}
 use Rattle.rw_host.specs.Rows.{entry_of, row_entries, are_in_order, IsPlaceOf, IsGapFor}
 use Rattle.rw_host.proofs.Order.{by_bytes, greater_from_less, less_from_greater, equal_from_same}
 
-is_Less : (r : Ordering) → is_lt r ≡ true → r ≡ Less
+pub is_Less : (r : Ordering) → is_lt r ≡ true → r ≡ Less
 is_Less Less e = refl
 is_Less Equal e = absurd (both_ways false refl e)
 is_Less Greater e = absurd (both_ways false refl e)
 
-left : (a b : Bool) → (a && b) ≡ true → a ≡ true
+pub left : (a b : Bool) → (a && b) ≡ true → a ≡ true
 left true b e = refl
 left false b e = absurd (both_ways false refl e)
 
-right : (a b : Bool) → (a && b) ≡ true → b ≡ true
+pub right : (a b : Bool) → (a && b) ≡ true → b ≡ true
 right true b e = e
 right false b e = absurd (both_ways false refl e)
 
@@ -55,7 +55,7 @@ first_below : (row : FileRow) (rows : List FileRow) (path : List ℕ) (i : ℕ) 
 first_below row rows path i sorted at = below_place row.path rows path i (left _ _ sorted) (place_tail row rows path i at)
 
 -- ---- a row is put
-pub put_gap : (rows : List FileRow) (new : FileRow) (i : ℕ) → IsGapFor rows new.path i → put by_bytes new.path new.bytes.items (row_entries rows) ≡ row_entries (insert rows i new)
+pub put_gap : (rows : List FileRow) (new : FileRow) (i : ℕ) → IsGapFor rows new.path i → put by_bytes new.path new.state (row_entries rows) ≡ row_entries (insert rows i new)
 put_gap [] new zero gap = refl
 put_gap [] new (suc i) gap = absurd (omega (arith, gap.in_range))
 put_gap (row ∷ rows) new zero gap = rw (less_from_greater row.path new.path (gap.greater_after 0 row (omega arith) (omega arith))) refl
@@ -63,11 +63,11 @@ put_gap (row ∷ rows) new (suc i) gap =
     rw (greater_from_less row.path new.path (gap.smaller_before 0 row (omega arith)))
     (ap (λ es. entry_of row ∷ es) (put_gap rows new i (gap_tail row rows new.path i gap)))
 
-pub put_place : (rows : List FileRow) (new : FileRow) (i : ℕ) → IsTrue (are_in_order rows) → IsPlaceOf rows new.path i → put by_bytes new.path new.bytes.items (row_entries rows) ≡ row_entries (set rows i new)
+pub put_place : (rows : List FileRow) (new : FileRow) (i : ℕ) → IsTrue (are_in_order rows) → IsPlaceOf rows new.path i → put by_bytes new.path new.state (row_entries rows) ≡ row_entries (set rows i new)
 put_place [] new i sorted at = absurd (omega (arith, at.in_range))
 put_place (row ∷ rows) new zero sorted at =
     let e : row.path ≡ new.path = at.has_path row in
-    rw (equal_from_same new.path row.path (sym e)) (ap (λ p. (p, new.bytes.items) ∷ row_entries rows) e)
+    rw (equal_from_same new.path row.path (sym e)) (ap (λ p. (p, new.state) ∷ row_entries rows) e)
 put_place (row ∷ rows) new (suc i) sorted at =
     rw (greater_from_less row.path new.path (first_below row rows new.path i sorted at))
     (ap (λ es. entry_of row ∷ es) (put_place rows new i (right _ _ sorted) (place_tail row rows new.path i at)))
@@ -110,27 +110,27 @@ find_gap [] path i gap = refl
 find_gap (row ∷ rows) path zero gap = rw (less_from_greater row.path path (gap.greater_after 0 row (omega arith) (omega arith))) (find_gap rows path 0 (gap_later row rows path gap))
 find_gap (row ∷ rows) path (suc i) gap = rw (greater_from_less row.path path (gap.smaller_before 0 row (omega arith))) (find_gap rows path i (gap_tail row rows path i gap))
 
-pub find_place : (rows : List FileRow) (path : List ℕ) (i : ℕ) (d : FileRow) → IsTrue (are_in_order rows) → IsPlaceOf rows path i → find by_bytes path (row_entries rows) ≡ Some (get_or rows i d).bytes.items
+pub find_place : (rows : List FileRow) (path : List ℕ) (i : ℕ) (d : FileRow) → IsTrue (are_in_order rows) → IsPlaceOf rows path i → find by_bytes path (row_entries rows) ≡ Some (get_or rows i d).state
 find_place [] path i d sorted at = absurd (omega (arith, at.in_range))
 find_place (row ∷ rows) path zero d sorted at = rw (equal_from_same path row.path (sym (at.has_path row))) refl
 find_place (row ∷ rows) path (suc i) d sorted at =
     rw (greater_from_less row.path path (first_below row rows path i sorted at)) (find_place rows path i d (right _ _ sorted) (place_tail row rows path i at))
 
 -- ---- the order of the paths
-all_below : (x : List ℕ) (es : List (List ℕ × List ℕ)) → below_all by_bytes x es ≡ true → AllByRecursion (λ y. by_bytes x y ≡ Less) (map (λ e. e.0) es)
+all_below : {X : Type 0} (x : List ℕ) (es : List (List ℕ × X)) → below_all by_bytes x es ≡ true → AllByRecursion (λ y. by_bytes x y ≡ Less) (map (λ e. e.0) es)
 all_below x [] below = tt
 all_below x (e ∷ es) below = (is_Less _ (left _ _ below), all_below x es (right _ _ below))
 
-pub keys_in_order : (es : List (List ℕ × List ℕ)) → is_sorted by_bytes es ≡ true → IsStrictlySortedBy by_bytes (map (λ e. e.0) es)
+pub keys_in_order : {X : Type 0} (es : List (List ℕ × X)) → is_sorted by_bytes es ≡ true → IsStrictlySortedBy by_bytes (map (λ e. e.0) es)
 unfolding IsStrictlySortedBy
 keys_in_order [] sorted = tt
 keys_in_order (e ∷ es) sorted = (all_below e.0 es (left _ _ sorted), keys_in_order es (right _ _ sorted))
 
-below_from_all : (x : List ℕ) (es : List (List ℕ × List ℕ)) → AllByRecursion (λ y. by_bytes x y ≡ Less) (map (λ e. e.0) es) → below_all by_bytes x es ≡ true
+below_from_all : {X : Type 0} (x : List ℕ) (es : List (List ℕ × X)) → AllByRecursion (λ y. by_bytes x y ≡ Less) (map (λ e. e.0) es) → below_all by_bytes x es ≡ true
 below_from_all x [] all = refl
 below_from_all x (e ∷ es) all = rw all.0 (below_from_all x es all.1)
 
-pub in_order_from_keys : (es : List (List ℕ × List ℕ)) → IsStrictlySortedBy by_bytes (map (λ e. e.0) es) → is_sorted by_bytes es ≡ true
+pub in_order_from_keys : {X : Type 0} (es : List (List ℕ × X)) → IsStrictlySortedBy by_bytes (map (λ e. e.0) es) → is_sorted by_bytes es ≡ true
 unfolding IsStrictlySortedBy
 in_order_from_keys [] keys = refl
 in_order_from_keys (e ∷ es) keys = rw (below_from_all e.0 es keys.0) (in_order_from_keys es keys.1)

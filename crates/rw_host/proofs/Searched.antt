@@ -19,11 +19,12 @@ use Rattle.std.proofs.lemmas.Map.Entries.{place_from_lookup, lookup_from_place}
 use Rattle.std.proofs.lemmas.Option.{slice_get_within, slice_get-get_or, get_or_from_slice_get}
 use Rattle.std.proofs.lemmas.Simd.{map-map}
 use Rattle.rw_host.specs.declared.table.FileRow.{FileRow}
-use Rattle.rw_host.specs.Rows.{entry_of, row_entries, are_in_order, files_of, IsPlaceOf, IsGapFor}
-use Rattle.rw_host.specs.Table.{Given, entries_of, IsEachOnce}
+use Rattle.rw_host.specs.Rows.{entry_of, row_entries, are_in_order, states_of, IsPlaceOf, IsGapFor}
+use Rattle.rw_host.specs.States.{held}
+use Rattle.rw_host.specs.Table.{Given, given_states, IsEachOnce}
 use Rattle.rw_host.proofs.Order.{by_bytes, total, exact, greater_from_less, less_from_greater, ties_decide}
 use Rattle.rw_host.proofs.Rows.{keys_in_order, in_order_from_keys}
-use Rattle.rw_host.proofs.Maps.{files_get}
+use Rattle.rw_host.proofs.Maps.{states_get}
 
 abbrev pub path_of : FileRow → List ℕ
 path_of row = row.path
@@ -86,11 +87,11 @@ sorted_paths (row ∷ rows) sorted distinct =
     less_from_apart before after not_below (apart_from_distinct ties (map path_of all) k (k + 1) [] distinct (omega arith) lt))
 
 -- ---- a look-up in entries that changed places
-find_is_lookup : (q : List ℕ) (es : List (List ℕ × List ℕ)) → find by_bytes q es ≡ lookup (ties q) es
+find_is_lookup : {X : Type 0} (q : List ℕ) (es : List (List ℕ × X)) → find by_bytes q es ≡ lookup (ties q) es
 find_is_lookup q [] = refl
 find_is_lookup q (e ∷ es) = rw (find_is_lookup q es) refl
 
-found_in_both : (es fs : List (List ℕ × List ℕ)) → IsPermutation es fs → IsDistinct ties (map (λ e. e.0) fs) → (q v : List ℕ) → find by_bytes q es ≡ Some v → find by_bytes q fs ≡ Some v
+found_in_both : {X : Type 0} (es fs : List (List ℕ × X)) → IsPermutation es fs → IsDistinct ties (map (λ e. e.0) fs) → (q : List ℕ) (v : X) → find by_bytes q es ≡ Some v → find by_bytes q fs ≡ Some v
 found_in_both es fs moved distinct q v found =
     let place = place_from_lookup (ties q) es v (sym (find_is_lookup q es) ∙ found) in
     let i = place.0 in
@@ -100,7 +101,7 @@ found_in_both es fs moved distinct q v found =
     let same : q ≡ k = (ties_decide q k).0 place.3 in
     find_is_lookup q fs ∙ rw same (lookup_from_place (eq_by_cmp_equiv total) fs there.0 k v distinct (slice_get-get_or fs there.0 (k, v) there.1 ∙ ap Some there.2))
 
-same_found : (a b : Option (List ℕ)) → ((v : List ℕ) → a ≡ Some v → b ≡ Some v) → ((v : List ℕ) → b ≡ Some v → a ≡ Some v) → a ≡ b
+same_found : {X : Type 0} (a b : Option X) → ((v : X) → a ≡ Some v → b ≡ Some v) → ((v : X) → b ≡ Some v → a ≡ Some v) → a ≡ b
 same_found None None f g = refl
 same_found None (Some v) f g = g v refl
 same_found (Some v) b f g = sym (f v refl)
@@ -108,11 +109,11 @@ same_found (Some v) b f g = sym (f v refl)
 -- rows in order that are the given files
 pub record IsSortOf (given : Given) (rows : List FileRow) : Type 0 where
   pub sorted : IsTrue (are_in_order rows)
-  pub files : files_of rows ≡ finmap.from_entries (entries_of given)
+  pub states : states_of rows ≡ finmap.from_entries (given_states given)
 
-pub is_sort_of : (given : Given) (old rows : List FileRow) → row_entries old ≡ entries_of given → IsPermutation old rows → IsSortedBy path_less rows → IsEachOnce given → IsSortOf given rows
+pub is_sort_of : (given : Given) (old rows : List FileRow) → row_entries old ≡ given_states given → IsPermutation old rows → IsSortedBy path_less rows → IsEachOnce given → IsSortOf given rows
 is_sort_of given old rows same moved rising once =
-    let given_keys : map (λ e. e.0) (entries_of given) ≡ map (λ file. file.0) given = map-map (λ e. e.0) (λ file. (file.0, file.1.items)) given in
+    let given_keys : map (λ e. e.0) (given_states given) ≡ map (λ file. file.0) given = map-map (λ e. e.0) (λ file. (file.0, held file.1.items 0)) given in
     let distinct : IsDistinct ties (map (λ file. file.0) given) = IsDistinct-from_AllPairs ties_decide _ once in
     let old_distinct : IsDistinct ties (map (λ e. e.0) (row_entries old)) = subst (IsDistinct ties) (sym (ap (map (λ e. e.0)) same ∙ given_keys)) distinct in
     let entries_moved = IsPermutation-map entry_of old rows moved in
@@ -121,8 +122,8 @@ is_sort_of given old rows same moved rising once =
     let strict = sorted_paths rows rising (subst (IsDistinct ties) (keys_are_paths rows) new_distinct) in
     let now : IsTrue (are_in_order rows) = in_order_from_keys (row_entries rows) (subst (IsStrictlySortedBy by_bytes) (sym (keys_are_paths rows)) strict) in
     let each = λ (q : List ℕ).
-    files_get rows q now
+    states_get rows q now
     ∙ same_found _ _ (found_in_both _ _ (IsPermutation-sym _ _ entries_moved) old_distinct q) (found_in_both _ _ entries_moved new_distinct q)
     ∙ ap (find by_bytes q) same
-    ∙ sym (finmap.get-from_entries total (entries_of given) q) in
-    record { sorted = now; files = finmap.same_map total exact _ _ each }
+    ∙ sym (finmap.get-from_entries total (given_states given) q) in
+    record { sorted = now; states = finmap.same_map total exact _ _ each }

@@ -4,19 +4,20 @@ use Rattle.std.specs.declared.cmp.Ordering.TheVariants.{Less, Greater}
 use Rattle.std.specs.Ordering.{nat_cmp}
 use Rattle.std.specs.Cmp.Lexicographic.{slice_cmp}
 use Rattle.std.specs.FinMap as finmap
-use Rattle.rw_host.specs.Files.{Files}
+use Rattle.rw_host.specs.States.{States, changed_at}
+use Rattle.rw_host.specs.declared.state.FileState.{FileState}
 use Rattle.rw_host.specs.declared.table.FileRow.{FileRow}
 
--- a row's path and bytes
-abbrev pub entry_of : FileRow → List ℕ × List ℕ
-entry_of row = (row.path, row.bytes.items)
+-- a row's path and what is known of it
+abbrev pub entry_of : FileRow → List ℕ × FileState
+entry_of row = (row.path, row.state)
 
-abbrev pub row_entries : List FileRow → List (List ℕ × List ℕ)
+abbrev pub row_entries : List FileRow → List (List ℕ × FileState)
 row_entries rows = map entry_of rows
 
--- the files of rows whose paths rise
-abbrev pub files_of : List FileRow → Files
-files_of rows = finmap.from_sorted (row_entries rows)
+-- what rows whose paths rise say
+abbrev pub states_of : List FileRow → States
+states_of rows = finmap.from_sorted (row_entries rows)
 
 -- whether the paths strictly rise
 abbrev pub are_in_order : List FileRow → Bool
@@ -33,12 +34,17 @@ pub record IsGapFor (rows : List FileRow) (path : List ℕ) (i : ℕ) : Type 0 w
   pub smaller_before : (j : ℕ) (d : FileRow) → j < i → slice_cmp nat_cmp (slice_index_or rows j d).path path ≡ Less
   pub greater_after : (j : ℕ) (d : FileRow) → i ≤ j → j < length rows → slice_cmp nat_cmp (slice_index_or rows j d).path path ≡ Greater
 
--- rows in order that hold these bytes at the path, and else what they held
-pub record IsPut (rows : List FileRow) (path bytes : List ℕ) (new : List FileRow) : Type 0 where
+-- rows in order that say this of the path, and else what they said
+pub record IsPut (rows : List FileRow) (path : List ℕ) (state : FileState) (new : List FileRow) : Type 0 where
   pub sorted : IsTrue (are_in_order new)
-  pub files : files_of new ≡ finmap.insert (files_of rows) path bytes
+  pub states : states_of new ≡ finmap.insert (states_of rows) path state
 
--- rows in order that hold nothing at the path, and else what they held
+-- rows in order that say nothing of the path, and else what they said
 pub record IsTaken (rows : List FileRow) (path : List ℕ) (new : List FileRow) : Type 0 where
   pub sorted : IsTrue (are_in_order new)
-  pub files : files_of new ≡ finmap.remove (files_of rows) path
+  pub states : states_of new ≡ finmap.remove (states_of rows) path
+
+-- rows in order with what is said of the path changed, where something is said
+pub record IsChanged (rows : List FileRow) (path : List ℕ) (change : FileState → FileState) (new : List FileRow) : Type 0 where
+  pub sorted : IsTrue (are_in_order new)
+  pub states : states_of new ≡ changed_at (states_of rows) path change

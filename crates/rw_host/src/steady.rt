@@ -3,7 +3,7 @@ ghost use Rattle.std.specs.Prelude.{◌≡◌, IfOk, true};
 ghost use Rattle.std.specs.FinMap as map;
 ghost use Rattle.rw_host.specs.Table.{IsEachOnce, entries_of};
 
-use crate::table::{Table, first_bytes};
+use crate::table::Table;
 use crate::{Failed, PathText, Store, StoreFault};
 use rw_base::Mem;
 use std::alloc::Global;
@@ -23,7 +23,9 @@ impl Model for SteadyStore {
 
     ghost coded = { held_code };
 
-    ghost view = { λ s. s.table };
+    ghost use Rattle.rw_host.specs.States.{now_of};
+
+    ghost view = { λ s. record { files = now_of s.table.states; spare = s.table.spare } };
 }
 
 impl SteadyStore {
@@ -49,10 +51,7 @@ impl Store for SteadyStore {
     ghost write_faults = { λ _. 0 };
 
     fn list(&mut self, alloc: Global, most: u32) -> Result<Vec<PathText>, StoreFault> {
-        if self.table.len() > most as usize {
-            return Err(StoreFault::TooMany);
-        }
-        Ok(self.table.paths(alloc)?)
+        self.table.list(alloc, most)
     }
 
     fn read(
@@ -61,19 +60,15 @@ impl Store for SteadyStore {
         path: &str,
         most: u32,
     ) -> Result<Option<Vec<u8>>, StoreFault> {
-        let Some(bytes) = self.table.get(path) else {
-            return Ok(None);
-        };
-        let first = Vec::from_slice(alloc, first_bytes(bytes, most))?;
-        Ok(Some(first))
+        self.table.read(alloc, path, most)
     }
 
     fn reserve(&mut self, paths: u32) -> Result<(), StoreFault> {
-        Ok(self.table.reserve(paths as usize)?)
+        Ok(self.table.reserve(paths)?)
     }
 
     fn write(&mut self, path: PathText, bytes: Vec<u8>) -> Result<(), Failed> {
-        self.table.put(path, bytes);
+        self.table.put(path, bytes, 0);
         Ok(())
     }
 

@@ -1,27 +1,30 @@
-// Files in memory: rows of a path and bytes, in the order of the paths.
-ghost use Rattle.std.specs.Prelude.{◌≡◌, ◌≤◌, ◌<◌, ◌+◌, IsTrue, IfOk, IfErr, OnOk, length, vec_len, vec_capacity};
-ghost use Rattle.rw_host.specs.Files.{first_bytes};
-ghost use Rattle.std.specs.Option.{option_map};
+// Files in memory: rows of a path and what is known of it, in the order of the paths.
+ghost use Rattle.std.specs.Prelude.{◌≡◌, ◌≢◌, ◌≤◌, ◌<◌, ◌+◌, IsTrue, IfOk, IfErr, IfSome, OnOk, length, vec_len, vec_capacity};
+ghost use Rattle.std.specs.Option.{option_map, is_some};
 ghost use Rattle.std.specs.Ordering.{nat_cmp};
 ghost use Rattle.std.specs.Cmp.Lexicographic.{slice_cmp};
 ghost use Rattle.std.specs.FinMap as map;
-ghost use Rattle.rw_host.specs.Table.{IsEachOnce, entries_of};
-ghost use Rattle.rw_host.specs.Rows.{row_entries, are_in_order, IsPlaceOf, IsGapFor, IsPut, IsTaken};
+ghost use Rattle.rw_host.specs.Files.{first_bytes, IsInOrder};
+ghost use Rattle.rw_host.specs.States.{held, touched, marked, removed, changed_at, now_of};
+ghost use Rattle.rw_host.specs.Table.{IsEachOnce, given_states};
+ghost use Rattle.rw_host.specs.Rows.{row_entries, are_in_order, states_of, IsPlaceOf, IsGapFor, IsPut, IsTaken, IsChanged};
 
-use crate::PathText;
-use rw_base::Mem;
+use crate::state::FileState;
+use crate::{PathText, StoreFault};
+use rw_base::{Mem, Text};
 use std::alloc::Global;
 use std::cmp::Ordering;
 use std::marker::Model;
 
-// A file.
+// A path and what is known of it.
 #[derive(Debug, Drop)]
 pub(crate) struct FileRow {
     path: PathText,
-    bytes: Vec<u8>,
+    state: FileState,
 }
 
-// Files in memory. Contracts see the map from paths to bytes, and for how many more rows there is room.
+// Files in memory. Contracts see the map from paths to what is known of them, and for how many more paths there is
+// room.
 #[derive(Debug, Drop)]
 pub(crate) struct Table {
     rows: Vec<FileRow>,
@@ -29,27 +32,17 @@ pub(crate) struct Table {
 
 impl Model for Table {
     ghost use Rattle.std.specs.Prelude.{◌-◌, IsTrue, vec_len, vec_capacity};
-    ghost use Rattle.rw_host.specs.Table.{Held, held_code};
+    ghost use Rattle.rw_host.specs.Table.{Known, known_code};
 
-    ghost Value = { Held };
+    ghost Value = { Known };
 
-    ghost coded = { held_code };
+    ghost coded = { known_code };
 
-    ghost use Rattle.rw_host.specs.Rows.{files_of, are_in_order};
+    ghost use Rattle.rw_host.specs.Rows.{states_of, are_in_order};
 
-    ghost view = { λ t. record { files = files_of t.rows.items; spare = vec_capacity t.rows - vec_len t.rows } };
+    ghost view = { λ t. record { states = states_of t.rows.items; spare = vec_capacity t.rows - vec_len t.rows } };
 
     ghost invariant = { λ t. IsTrue (are_in_order t.rows.items) };
-}
-
-fn rows_of(alloc: Global, files: Vec<(PathText, Vec<u8>)>) -> Mem<Vec<FileRow>>
-    ensures { IfOk result (λ rows. row_entries rows.items ≡ entries_of files.items) }
-{
-    let mut rows = Vec::with_capacity(alloc, files.len())?;
-    for (path, bytes) in files {
-        rows.push(FileRow { path, bytes })?;
-    }
-    Ok(rows)
 }
 
 // How a row stands to a path in the order of paths.
@@ -57,6 +50,36 @@ fn order_of(row: &FileRow, path: &str) -> Ordering
     ensures { result ≡ slice_cmp nat_cmp row.now.path path.now }
 {
     row.path.as_str().cmp(path)
+}
+
+fn has_file(row: &FileRow) -> bool
+    ensures { result ≡ is_some row.now.state.now }
+{
+    row.state.now.is_some()
+}
+
+fn rows_of(alloc: Global, files: Vec<(PathText, Vec<u8>)>) -> Mem<Vec<FileRow>>
+    ensures { IfOk result (λ rows. row_entries rows.items ≡ given_states files.items) }
+{
+    let mut rows = Vec::with_capacity(alloc, files.len())?;
+    for (path, bytes) in files {
+        rows.push(FileRow {
+            path,
+            state: held(bytes, 0),
+        })?;
+    }
+    Ok(rows)
+}
+
+// A file with these bytes, put there by this call.
+fn held(bytes: Vec<u8>, call: u32) -> FileState
+    ensures { result ≡ held bytes.items call }
+{
+    FileState {
+        now: Some(Text::from_vec(bytes)),
+        was_held: true,
+        changed: call,
+    }
 }
 
 // Where the row with this path is, or where it would go.
@@ -72,7 +95,7 @@ fn search(rows: &[FileRow], path: &str) -> Result<usize, usize>
 fn put_row(rows: &mut Vec<FileRow>, row: FileRow)
     requires sorted { IsTrue (are_in_order rows.old.items) }
     requires room { vec_len rows.old < vec_capacity rows.old }
-    ensures put { IsPut rows.old.items row.path row.bytes.items rows.new.items }
+    ensures put { IsPut rows.old.items row.path row.state rows.new.items }
     ensures len { vec_len rows.new ≤ vec_len rows.old + 1 }
     ensures capacity { vec_capacity rows.old ≤ vec_capacity rows.new }
 {
@@ -80,6 +103,31 @@ fn put_row(rows: &mut Vec<FileRow>, row: FileRow)
         Ok(at) => rows[at] = row,
         Err(at) => {
             let put = rows.insert(at, row);
+            prove!(put.is_ok());
+        }
+    }
+}
+
+// Notes a write of this path that failed.
+fn touch_row(rows: &mut Vec<FileRow>, path: PathText, call: u32)
+    requires sorted { IsTrue (are_in_order rows.old.items) }
+    requires room { vec_len rows.old < vec_capacity rows.old }
+    ensures put { IsPut rows.old.items path (touched (map.get (states_of rows.old.items) path) call) rows.new.items }
+    ensures len { vec_len rows.new ≤ vec_len rows.old + 1 }
+    ensures capacity { vec_capacity rows.old ≤ vec_capacity rows.new }
+{
+    match search(rows, path.as_str()) {
+        Ok(at) => {
+            let row = &mut rows[at];
+            row.state.changed = call;
+        }
+        Err(at) => {
+            let state = FileState {
+                now: None,
+                was_held: false,
+                changed: call,
+            };
+            let put = rows.insert(at, FileRow { path, state });
             prove!(put.is_ok());
         }
     }
@@ -97,76 +145,183 @@ fn take_row(rows: &mut Vec<FileRow>, path: &str)
     }
 }
 
+// Removes the file with this path, and keeps the row.
+fn empty_row(rows: &mut Vec<FileRow>, path: &str, call: u32)
+    requires { IsTrue (are_in_order rows.old.items) }
+    ensures changed { IsChanged rows.old.items path.now (λ state. removed state call) rows.new.items }
+    ensures len { vec_len rows.new ≤ vec_len rows.old }
+    ensures capacity { vec_capacity rows.old ≤ vec_capacity rows.new }
+{
+    if let Ok(at) = search(rows, path) {
+        let row = &mut rows[at];
+        row.state.remove(call);
+    }
+}
+
+// Notes a removal of this path that failed.
+fn mark_row(rows: &mut Vec<FileRow>, path: &str, call: u32)
+    requires { IsTrue (are_in_order rows.old.items) }
+    ensures changed { IsChanged rows.old.items path.now (λ state. marked state call) rows.new.items }
+    ensures len { vec_len rows.new ≤ vec_len rows.old }
+    ensures capacity { vec_capacity rows.old ≤ vec_capacity rows.new }
+{
+    if let Ok(at) = search(rows, path) {
+        let row = &mut rows[at];
+        row.state.mark(call);
+    }
+}
+
+// The first `most` bytes.
+fn first_bytes(bytes: &[u8], most: u32) -> &[u8]
+    ensures bytes { result.now ≡ first_bytes most bytes.now }
+    ensures at_most { length result.now ≤ most }
+{
+    &bytes[..bytes.len().min(most as usize)]
+}
+
 impl Table {
     pub(crate) fn new(alloc: Global, files: Vec<(PathText, Vec<u8>)>) -> Mem<Table>
         requires { IsEachOnce files.items }
-        ensures { IfOk result (λ table. table.files ≡ map.from_entries (entries_of files.items)) }
+        ensures { IfOk result (λ table. table.states ≡ map.from_entries (given_states files.items)) }
     {
         let mut rows = rows_of(alloc, files)?;
         rows.sort_unstable_by(|one, other| order_of(one, other.path.as_str()));
         Ok(Table { rows })
     }
 
-    // How many files there are.
-    pub(crate) fn len(&self) -> usize
-        ensures { result ≡ map.len self.now.files }
+    // How many paths have a file.
+    fn len(&self) -> usize
+        ensures { result ≡ map.len (now_of self.now.states) }
     {
-        self.rows.len()
+        let mut len = 0;
+        for row in &self.rows {
+            if !has_file(row) {
+                continue;
+            }
+            len += 1;
+        }
+        len
     }
 
-    // All paths, in order.
-    pub(crate) fn paths(&self, alloc: Global) -> Mem<Vec<PathText>>
-        ensures { IfOk result (λ paths. paths.items ≡ map.keys self.now.files) }
+    // All paths that have a file, in order.
+    fn paths(&self, alloc: Global) -> Mem<Vec<PathText>>
+        ensures { IfOk result (λ paths. paths.items ≡ map.keys (now_of self.now.states)) }
     {
         let mut paths = Vec::with_capacity(alloc, self.rows.len())?;
         for row in &self.rows {
+            if !has_file(row) {
+                continue;
+            }
             paths.push(row.path.copied(alloc)?)?;
         }
         Ok(paths)
     }
 
-    // The bytes of the file with this path.
-    pub(crate) fn get(&self, path: &str) -> Option<&[u8]>
-        ensures { option_map (λ bytes. bytes.now) result ≡ map.get self.now.files path.now }
+    // What a store with these files answers to `list` where it doesn't fail.
+    pub(crate) fn list(&self, alloc: Global, most: u32) -> Result<Vec<PathText>, StoreFault>
+        ensures paths { IfOk result (λ paths. paths.items ≡ map.keys (now_of self.now.states)) }
+        ensures in_order { IfOk result (λ paths. IsInOrder paths.items) }
+        ensures at_most { IfOk result (λ paths. vec_len paths ≤ most) }
+        ensures all_fit { OnOk result (map.len (now_of self.now.states) ≤ most) }
+        ensures too_many { result ≡ Err StoreFault.TooMany → most < map.len (now_of self.now.states) }
+        ensures no_fault { result ≢ Err StoreFault.Failed }
+    {
+        if self.len() > most as usize {
+            return Err(StoreFault::TooMany);
+        }
+        Ok(self.paths(alloc)?)
+    }
+
+    // What is known of this path.
+    fn state(&self, path: &str) -> Option<&FileState>
+        ensures { option_map (λ state. state.now) result ≡ map.get self.now.states path.now }
     {
         match search(&self.rows, path) {
-            Ok(at) => Some(&self.rows[at].bytes),
+            Ok(at) => Some(&self.rows[at].state),
             Err(_) => None,
         }
     }
 
+    // The bytes of the file with this path.
+    fn get(&self, path: &str) -> Option<&[u8]>
+        ensures { option_map (λ bytes. bytes.now) result ≡ map.get (now_of self.now.states) path.now }
+    {
+        let state = self.state(path)?;
+        match &state.now {
+            Some(bytes) => Some(bytes.as_slice()),
+            None => None,
+        }
+    }
+
+    // What a store with these files answers to `read` where it doesn't fail.
+    pub(crate) fn read(
+        &self,
+        alloc: Global,
+        path: &str,
+        most: u32,
+    ) -> Result<Option<Vec<u8>>, StoreFault>
+        ensures bytes { IfOk result (λ found. option_map (λ v. v.items) found ≡ option_map (first_bytes most) (map.get (now_of self.now.states) path.now)) }
+        ensures at_most { IfOk result (λ found. IfSome found (λ v. vec_len v ≤ most)) }
+        ensures not_many { result ≢ Err StoreFault.TooMany }
+        ensures no_fault { result ≢ Err StoreFault.Failed }
+    {
+        let Some(bytes) = self.get(path) else {
+            return Ok(None);
+        };
+        let first = Vec::from_slice(alloc, first_bytes(bytes, most))?;
+        Ok(Some(first))
+    }
+
     // Makes room for this many rows more.
-    pub(crate) fn reserve(&mut self, rows: usize) -> Mem<()>
-        ensures files { self.new.files ≡ self.old.files }
+    pub(crate) fn reserve(&mut self, rows: u32) -> Mem<()>
+        ensures states { self.new.states ≡ self.old.states }
         ensures room { OnOk result (rows ≤ self.new.spare) }
         ensures spare { self.old.spare ≤ self.new.spare }
     {
-        self.rows.reserve(rows)?;
+        self.rows.reserve(rows as usize)?;
         Ok(())
     }
 
     // Puts the file in place of the one that has the path, or as a new one.
-    pub(crate) fn put(&mut self, path: PathText, bytes: Vec<u8>)
+    pub(crate) fn put(&mut self, path: PathText, bytes: Vec<u8>, call: u32)
         requires { 1 ≤ self.old.spare }
-        ensures files { self.new.files ≡ map.insert self.old.files path bytes.items }
+        ensures states { self.new.states ≡ map.insert self.old.states path (held bytes.items call) }
         ensures spare { self.old.spare ≤ self.new.spare + 1 }
     {
-        put_row(&mut self.rows, FileRow { path, bytes });
+        let state = held(bytes, call);
+        put_row(&mut self.rows, FileRow { path, state });
     }
 
-    // Takes the file with this path away, where there is one.
+    // Notes a write of this path that failed.
+    pub(crate) fn touch(&mut self, path: PathText, call: u32)
+        requires { 1 ≤ self.old.spare }
+        ensures states { self.new.states ≡ map.insert self.old.states path (touched (map.get self.old.states path) call) }
+        ensures spare { self.old.spare ≤ self.new.spare + 1 }
+    {
+        touch_row(&mut self.rows, path, call);
+    }
+
+    // Forgets this path.
     pub(crate) fn take(&mut self, path: &str)
-        ensures files { self.new.files ≡ map.remove self.old.files path.now }
+        ensures states { self.new.states ≡ map.remove self.old.states path.now }
         ensures spare { self.old.spare ≤ self.new.spare }
     {
         take_row(&mut self.rows, path);
     }
-}
 
-// The first `most` bytes.
-pub(crate) fn first_bytes(bytes: &[u8], most: u32) -> &[u8]
-    ensures bytes { result.now ≡ first_bytes most bytes.now }
-    ensures at_most { length result.now ≤ most }
-{
-    &bytes[..bytes.len().min(most as usize)]
+    // Removes the file with this path.
+    pub(crate) fn empty(&mut self, path: &str, call: u32)
+        ensures states { self.new.states ≡ changed_at self.old.states path.now (λ state. removed state call) }
+        ensures spare { self.old.spare ≤ self.new.spare }
+    {
+        empty_row(&mut self.rows, path, call);
+    }
+
+    // Notes a removal of this path that failed.
+    pub(crate) fn mark(&mut self, path: &str, call: u32)
+        ensures states { self.new.states ≡ changed_at self.old.states path.now (λ state. marked state call) }
+        ensures spare { self.old.spare ≤ self.new.spare }
+    {
+        mark_row(&mut self.rows, path, call);
+    }
 }

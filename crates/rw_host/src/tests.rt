@@ -4,7 +4,8 @@ ghost use Rattle.std.specs.Prelude.{◌≡◌, ◌≢◌, IfOk};
 ghost use Rattle.rw_host.specs.Table.{IsEachOnce};
 
 use crate::{
-    Failed, FolderStore, MemorySink, PathText, Sink, StdSink, SteadyStore, Store, StoreFault,
+    Failed, FolderStore, MemorySink, MemoryStore, PathText, Sink, StdSink, SteadyStore, Store,
+    StoreFault,
 };
 use rw_base::Mem;
 use std::alloc::Global;
@@ -148,6 +149,35 @@ fn steady_store_keeps_files(rt: HostRuntime) -> Result<(), Fail> {
     assert_eq!(rt; names(alloc, &mut store)?.as_str(), "a/c b ");
     let text = text_at(alloc, &mut store, "a/c", 9)?;
     assert_eq!(rt; text.as_ref().map(|text| text.as_str()), Some("text"));
+    Ok(())
+}
+
+#[test]
+fn memory_store_keeps_files(rt: HostRuntime) -> Result<(), Fail> {
+    let alloc = rt.alloc();
+    let mut store = MemoryStore::new(alloc, Vec::new(alloc), Vec::new(alloc), 0)?;
+    keeps_files(&rt, alloc, &mut store)
+}
+
+#[test]
+fn memory_store_fails_where_it_was_asked_to(rt: HostRuntime) -> Result<(), Fail> {
+    let alloc = rt.alloc();
+    let files = two_files(alloc, path(alloc, "b")?, path(alloc, "a")?)?;
+    let mut fail = Vec::new(alloc);
+    for call in [2, 4, 6, 7] {
+        fail.push(call)?;
+    }
+    let mut store = MemoryStore::new(alloc, files, fail, 9)?;
+    store.reserve(9)?;
+    assert!(rt; matches!(store.list(alloc, 9), Err(StoreFault::Failed)));
+    assert_eq!(rt; store.list(alloc, 9)?.len(), 2);
+    assert_eq!(rt; store.remove("a"), Err(Failed));
+    assert!(rt; store.read(alloc, "a", 9)?.is_some());
+    assert_eq!(rt; store.sync(), Err(Failed));
+    assert!(rt; matches!(store.reserve(1), Err(StoreFault::Failed)));
+    store.sync()?;
+    assert_eq!(rt; store.sync(), Err(Failed));
+    assert!(rt; matches!(store.read(alloc, "b", 9), Err(StoreFault::Failed)));
     Ok(())
 }
 

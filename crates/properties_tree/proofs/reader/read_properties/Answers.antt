@@ -17,4 +17,4 @@ unfolding too_large
 returns-then-bytes-gt-MOST_BYTES-clause-too_large c = λ h. rw c.place_of-place.ensures refl
 
 pub loop-at-init : goal.loop-at-init
-loop-at-init c = none_read c.args.bytes.now _ _ c.new-leaves.ensures.items c.new-nodes.ensures.items
+loop-at-init c = none_read c.args.bytes.now _ _ c.in_ok-leaves.ensures.items c.in_ok-nodes.ensures.items

@@ -19,4 +19,4 @@ returns-in-Err-clause-put c =
     let at = c.in-Err.at in
     let gap : IsGapFor rows c.args.row.path at = rw (← c.deref.ensures.value, ← c.as_str.ensures.bytes) c.in-Err.ensures.absent in
     let inserted = c.insert-put.ensures.items ∙ ap (λ ok. if ok then insert rows at c.args.row else rows) (sym c.is_ok.ensures.value ∙ c.if-prove.false) in
-    subst (IsPut rows c.args.row.path c.args.row.bytes.items) (sym inserted) (is_put rows _ _ _ c.requires.sorted (put_gap rows c.args.row at gap))
+    subst (IsPut rows c.args.row.path c.args.row.state) (sym inserted) (is_put rows _ _ _ c.requires.sorted (put_gap rows c.args.row at gap))

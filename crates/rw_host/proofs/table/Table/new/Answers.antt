@@ -14,4 +14,4 @@ pub invariant_of-result : goal.invariant_of-result
 invariant_of-result c = (sorted c).sorted
 
 pub returns : goal.returns
-returns c = (sorted c).files
+returns c = (sorted c).states
