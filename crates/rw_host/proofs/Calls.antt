@@ -1,10 +1,10 @@
 -- That no path was changed by a later call than the last, and which paths are unsynced.
-use Rattle.std.proofs.Common.{◌≡◌, ℕ, ◌+◌, ◌<◌, ◌≤◌, Bool, true, false, cond, List, [], ◌∷◌, Option, Some, None, refl, sym, ap, ◌∙◌, subst, arith}
+use Rattle.std.proofs.Common.{◌≡◌, ℕ, ◌<◌, ◌≤◌, Bool, true, false, cond, List, [], ◌∷◌, Option, Some, None, refl, sym, ap, ◌∙◌, subst, arith}
 use Rattle.std.specs.Option.{IfSome, IsSomeAnd, option_map}
 use Rattle.std.specs.Ordering.{eq_by_cmp}
 use Rattle.std.specs.FinMap as finmap
 use Rattle.rw_host.specs.declared.state.FileState.{FileState}
-use Rattle.rw_host.specs.States.{States, held, touched, marked, removed, changed_at, put_some}
+use Rattle.rw_host.specs.States.{States, held, touched, changed_at, put_some}
 use Rattle.rw_host.specs.Table.{Given, given_states}
 use Rattle.rw_host.specs.Memory.{AllUpTo, stop_of}
 use Rattle.std.specs.Prelude.{◌==◌, ◌||◌, nat_lt, if◌then◌else◌}

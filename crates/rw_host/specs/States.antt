@@ -1,8 +1,7 @@
 -- What a store in memory knows of each path that it has met.
-use Rattle.std.specs.Prelude.{◌≡◌, ◌≢◌, ℕ, ◌<◌, Bool, true, false, ◌||◌, cond, Option, Some, None, List, Vec, map, refl}
-use Rattle.std.specs.Global.{Global}
-use Rattle.std.specs.Option.{option_map, IfSome}
-use Rattle.std.specs.List.{AllPairs, filter_map}
+use Rattle.std.specs.Prelude.{ℕ, Bool, true, false, cond, Option, Some, None, List, refl}
+use Rattle.std.specs.Option.{option_map}
+use Rattle.std.specs.List.{filter_map}
 use Rattle.std.specs.Ordering.{nat_cmp}
 use Rattle.std.specs.Cmp.Lexicographic.{slice_cmp}
 use Rattle.std.specs.Coded.{Coded, code_by, coded×, coded_ℕ, coded_bool, coded_list, coded_option}

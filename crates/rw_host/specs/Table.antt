@@ -1,5 +1,5 @@
 -- Files in memory, as a caller hands them in and as contracts see them.
-use Rattle.std.specs.Prelude.{◌≡◌, ◌≢◌, ℕ, ◌<◌, ◌≤◌, Bool, IsTrue, List, Vec, map, length, slice_index_or, refl}
+use Rattle.std.specs.Prelude.{◌≢◌, ℕ, List, Vec, map, refl}
 use Rattle.std.specs.Global.{Global}
 use Rattle.std.specs.List.{AllPairs}
 use Rattle.std.specs.Coded.{Coded, code_by, coded×, coded_ℕ, coded_list}

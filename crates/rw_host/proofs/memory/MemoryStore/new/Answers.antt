@@ -1,6 +1,6 @@
 use Rattle.std.proofs.Common.{ap, sym, subst, ◌∙◌, arith}
 use Rattle.rw_host.specs.States.{now_of}
-use Rattle.rw_host.specs.Memory.{AllUpTo, stop_of}
+use Rattle.rw_host.specs.Memory.{AllUpTo}
 use Rattle.rw_host.proofs.Now.{now_given}
 use Rattle.rw_host.proofs.Calls.{up_to-given, all_synced, stop_of_le}
 use Rattle.rw_host.proofs.memory.MemoryStore.new.Goals as goal

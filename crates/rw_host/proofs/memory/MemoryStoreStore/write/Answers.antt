@@ -2,7 +2,7 @@ use Rattle.std.proofs.Common.{◌<◌, refl, subst, sym, ap, ◌∙◌, arith}
 use Rattle.std.specs.Option.{IsSomeAnd}
 use Rattle.std.specs.FinMap as map
 use Rattle.rw_host.specs.Files.{SameElsewhere, same_elsewhere-insert}
-use Rattle.rw_host.specs.States.{States, now_of, held, touched}
+use Rattle.rw_host.specs.States.{now_of, held, touched}
 use Rattle.rw_host.specs.Memory.{AllUpTo, IsUnsynced}
 use Rattle.rw_host.proofs.Now.{now_put, now_touched}
 use Rattle.rw_host.proofs.Calls.{up_to-insert, up_to-touched, put_unsynced, touched_changed}

@@ -1,5 +1,4 @@
-use Rattle.std.proofs.Common.{◌≡◌, ◌+◌, ◌<◌, ◌∷◌, [], length, false, true, sym, ap, ◌∙◌, arith, length-append}
-use Rattle.std.specs.Option.{is_some}
+use Rattle.std.proofs.Common.{◌≡◌, ◌+◌, ◌∷◌, [], length, sym, ap, ◌∙◌, arith, length-append}
 use Rattle.std.specs.FinMap as finmap
 use Rattle.rw_host.specs.States.{now_of}
 use Rattle.rw_host.proofs.Now.{paths_before, path_more, path_passed, now_keys, len_keys}

@@ -1,8 +1,7 @@
-use Rattle.std.proofs.Common.{◌≡◌, ◌+◌, ◌<◌, ◌∷◌, [], length, false, true, sym, ap, ◌∙◌, arith, length-append}
-use Rattle.std.specs.Option.{is_some}
+use Rattle.std.proofs.Common.{length, sym, ap, ◌∙◌, arith}
 use Rattle.std.specs.FinMap as finmap
 use Rattle.rw_host.specs.States.{now_of}
-use Rattle.rw_host.proofs.Now.{paths_before, path_more, path_passed, now_keys, len_keys}
+use Rattle.rw_host.proofs.Now.{paths_before, path_more, path_passed, now_keys}
 use Rattle.rw_host.proofs.table.Table.paths.Goals as goal
 
 -- the row has no file
