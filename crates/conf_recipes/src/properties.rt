@@ -56,7 +56,7 @@ pub fn edits_in_properties(
 mod tests {
     use super::*;
     use properties_tree::read_properties;
-    use rw_base::rearranged;
+    use rw_base::{print, rearranged};
     use std::test::Fail;
 
     #[test]
@@ -69,6 +69,9 @@ mod tests {
         let Ok(tree) = read_properties(rt.alloc(), bytes) else {
             return Err(Fail::new("refused"));
         };
+        let mut same = Vec::new(rt.alloc());
+        print(&tree, bytes, &mut same)?;
+        assert_eq!(rt; same.as_slice(), bytes.as_slice());
         let edits = edits_in_properties(rt.alloc(), &tree, bytes, &options)?;
         assert_eq!(rt; edits.len(), 3);
         let text = rearranged(rt.alloc(), &tree, bytes, &edits)?;
