@@ -1,0 +1,7 @@
+pub mod Equality
+pub mod Levels
+pub mod Reached
+pub mod Deciding
+pub mod LeftOver
+pub mod WalkQuestions
+pub mod Worlds

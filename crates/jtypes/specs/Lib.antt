@@ -1,0 +1,9 @@
+pub mod Arrays
+pub mod World
+pub mod AskOrder
+pub mod Primitives
+pub mod Subtype
+pub mod Fits
+pub mod Grown
+pub mod Groups
+pub mod ListWorld

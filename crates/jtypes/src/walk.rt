@@ -1,0 +1,117 @@
+// The walk over the supertypes of a class.
+ghost use Rattle.std.specs.Prelude.{◌≡◌, ℕ, ◌≤◌, ◌↔◌, List, length, IsTrue, IfOk, OnOk, map};
+ghost use Rattle.dialogue.specs.Dialogue.{In};
+ghost use Rattle.dialogue.specs.Told.{Told, Heard};
+ghost use Rattle.jtypes.specs.Subtype.{Reaches, class_subtype, longest_row, object_name};
+ghost use Rattle.jtypes.specs.Grown.{Grown, Expanded, IsOnce};
+
+use crate::ask::Ask;
+use crate::asking::Asks;
+use crate::classes::Classes;
+use crate::name::Name;
+use rw_base::Mem;
+use sqlite_items::Items;
+use std::alloc::Global;
+
+fn has(names: &[Name], name: &Name) -> bool
+    ensures { IsTrue result ↔ In name.now names.now }
+{
+    for other in names {
+        if name.is(other) {
+            return true;
+        }
+    }
+    false
+}
+
+/// Puts those names that are not there yet.
+fn add_new(alloc: Global, seen: &mut Items<Name>, names: &[Name]) -> Mem<()>
+    ensures { OnOk result (Grown names.now seen.old seen.new) }
+{
+    for name in names {
+        if !has(seen.as_slice(), name) {
+            seen.push(name.copy(alloc)?)?;
+        }
+    }
+    Ok(())
+}
+
+/// Puts the supertypes of the classes from one place to before another.
+fn expand<C: Classes>(
+    alloc: Global,
+    seen: &mut Items<Name>,
+    from: usize,
+    past: usize,
+    c: &C,
+) -> Mem<()>
+    requires { past ≤ length seen.old }
+    ensures { OnOk result (Expanded (C.world c.now) from past seen.old seen.new) }
+{
+    for i in from..past {
+        if let Some(header) = c.class(&seen.as_slice()[i]) {
+            add_new(alloc, seen, header.supertypes.as_slice())?;
+        }
+    }
+    Ok(())
+}
+
+/// The classes reached by at most so many supertypes in a row, each once. A class is looked up
+/// once at most.
+fn reach<C: Classes>(alloc: Global, name: &Name, most: u32, c: &C) -> Mem<Items<Name>>
+    ensures reached { IfOk result (λ names. (b : List ℕ) → In b names ↔ Reaches (C.world c.now) most name.now b) }
+    ensures once { IfOk result IsOnce }
+{
+    let mut seen = Items::new(alloc);
+    seen.push(name.copy(alloc)?)?;
+    let mut from = 0;
+    for _level in 0..most {
+        let past = seen.len();
+        expand(alloc, &mut seen, from, past, c)?;
+        from = past;
+    }
+    Ok(seen)
+}
+
+fn put_classes(alloc: Global, names: &[Name], asks: &mut Asks) -> Mem<()>
+    ensures { OnOk result (Heard asks.old (map Ask.Class names.now) asks.new) }
+{
+    for name in names {
+        asks.put(Ask::Class(name.copy(alloc)?))?;
+    }
+    Ok(())
+}
+
+/// How many supertypes in a row count.
+fn longest_row() -> u32
+    ensures { result ≡ longest_row }
+{
+    64
+}
+
+#[tactic(auto, unfolding(crate::specs::Subtype::object_name))]
+pub(crate) fn is_object(name: &Name) -> bool
+    ensures { IsTrue result ↔ (name.now ≡ object_name) }
+{
+    name.reads(b"java.lang.Object")
+}
+
+/// Whether a class is a subtype of another (JLS 4.10.2).
+pub(crate) fn is_class_subtype<C: Classes>(
+    alloc: Global,
+    a: &Name,
+    b: &Name,
+    c: &C,
+    asks: &mut Asks,
+) -> Mem<bool>
+    ensures { IfOk result (λ r. Told (class_subtype a.now b.now) (C.world c.now) asks.old asks.new r) }
+{
+    if a.is(b) {
+        return Ok(true);
+    }
+    if is_object(b) {
+        return Ok(true);
+    }
+    let names = reach(alloc, a, longest_row(), c)?;
+    put_classes(alloc, names.as_slice(), asks)?;
+    Ok(has(names.as_slice(), b))
+}
