@@ -1,26 +1,29 @@
 -- The positions of edits, found one edit after another.
-use Rattle.std.proofs.Common.{◌≡◌, ◌≢◌, ℕ, zero, suc, ◌+◌, ◌<◌, ◌≤◌, List, [], ◌∷◌, length, drop, get_or, set, refl, sym, ap, subst, ◌∙◌, arith, add-one, drop-cons, get_or-set_other, get_or-set_same, true, false, ◌⊎◌, inl, inr}
+use Rattle.std.proofs.Common.{◌≡◌, ◌≢◌, ℕ, zero, suc, ◌+◌, ◌<◌, ◌≤◌, List, [], ◌∷◌, length, drop, get_or, set, refl, sym, ap, subst, ◌∙◌, arith, add-one, drop-cons, get_or-set_other, get_or-set_same, ◌⊎◌, inl, inr}
 use Rattle.std.specs.Prelude.{Option, Some, None, All}
 use Rattle.std.proofs.lemmas.List.{length-set, drop_all}
 use Rattle.std.proofs.lemmas.List.Elements.{All-tail, All-head}
-use Rattle.std.proofs.lemmas.Bool.{cases_eq, eq-eqb, ne_eqb}
+use Rattle.std.proofs.lemmas.Bool.{cases_eq}
+use Rattle.rw_base.specs.declared.edit.Item.{Item}
 use Rattle.rw_base.specs.declared.edit.Spot.{Spot}
 use Rattle.rw_base.specs.declared.edit.Spot.TheVariants as spot
 use Rattle.rw_base.specs.declared.edit.Edit.{Edit}
-use Rattle.rw_base.specs.NewText.{items_text, is_at_leaf, leaf_edit, AreLeafEdits, IsLeafBelow}
-use Rattle.rw_base.specs.Chosen.{no_edit, edit_text, AreChosen}
+use Rattle.rw_base.specs.Arena.{Arena}
+use Rattle.rw_base.specs.NewText.{edit_at, IsSpot, AreEdits}
+use Rattle.rw_base.specs.EditLaws.{edit_here, edit_later}
+use Rattle.rw_base.specs.Chosen.{no_edit, leaf_spot, node_spot, items_of, AreChosen}
 
-abbrev pub or_else : Option (List ℕ) → Option (List ℕ) → Option (List ℕ)
+abbrev pub or_else : Option (List Item) → Option (List Item) → Option (List Item)
 or_else None more = more
-or_else (Some text) more = Some text
+or_else (Some items) more = Some items
 
 -- what the first k edits have chosen
-pub record IsChoosing (count : ℕ) (edits : List Edit) (k : ℕ) (chosen : List (Option ℕ)) : Type 0 where
+pub record IsChoosing (t : Arena) (to : ℕ → Spot) (count : ℕ) (edits : List Edit) (k : ℕ) (chosen : List (Option ℕ)) : Type 0 where
   pub long : length chosen ≡ count
-  pub each : (i : ℕ) → i < count → leaf_edit edits i ≡ or_else (edit_text edits (get_or chosen i None)) (leaf_edit (drop k edits) i)
+  pub each : (i : ℕ) → i < count → edit_at edits (to i) ≡ or_else (items_of edits (get_or chosen i None)) (edit_at (drop k edits) (to i))
   pub inside : (i j : ℕ) → get_or chosen i None ≡ Some j → j < length edits
-  pub fresh : (i j : ℕ) → get_or chosen i None ≡ Some j → leaf_edit (drop k edits) i ≡ None
-  pub rest : AreLeafEdits count (drop k edits)
+  pub fresh : (i j : ℕ) → get_or chosen i None ≡ Some j → edit_at (drop k edits) (to i) ≡ None
+  pub rest : AreEdits t (drop k edits)
 
 -- the default of a read within the list doesn't matter
 pub same_at : {A : Type 0} (xs : List A) (i : ℕ) (d e : A) → i < length xs → get_or xs i d ≡ get_or xs i e
@@ -28,114 +31,122 @@ same_at [] i d e lt = absurd (omega arith)
 same_at (x ∷ xs) zero d e lt = refl
 same_at (x ∷ xs) (suc i) d e lt = same_at xs i d e (omega arith)
 
--- no edit is at a leaf from which all spots differ
-none_left : (es : List Edit) (m : ℕ) → All (λ f. f.spot ≢ spot.Leaf m) es → leaf_edit es m ≡ None
-unfolding leaf_edit
-none_left [] m h = refl
-none_left (e ∷ es) m h =
-    let other : is_at_leaf e.spot m ≡ false = differs e.spot (All-head (λ (f : Edit). f.spot ≢ spot.Leaf m) e es h) in
-    rw other (none_left es m (All-tail (λ (f : Edit). f.spot ≢ spot.Leaf m) e es h))
-  where
-    differs : (s : Spot) → s ≢ spot.Leaf m → is_at_leaf s m ≡ false
-    differs (spot.Leaf k) ne = ne_eqb k m (λ e. ne (ap spot.Leaf e))
-    differs (spot.Node n) ne = refl
+-- no edit is at a spot from which all spots differ
+none_left : (es : List Edit) (s : Spot) → All (λ f. f.spot ≢ s) es → edit_at es s ≡ None
+unfolding edit_at
+none_left [] s h = refl
+none_left (e ∷ es) s h = edit_later e es s (All-head (λ (f : Edit). f.spot ≢ s) e es h) ∙ none_left es s (All-tail (λ (f : Edit). f.spot ≢ s) e es h)
 
-module _ (count : ℕ) (edits : List Edit) (k : ℕ) (chosen : List (Option ℕ)) (e : Edit) (m : ℕ) (lt : k < length edits) (here : e ≡ get_or edits k e) (at_leaf : e.spot ≡ spot.Leaf m) (so_far : IsChoosing count edits k chosen) where
+module _ (t : Arena) (to : ℕ → Spot) (count : ℕ) (edits : List Edit) (k : ℕ) (chosen : List (Option ℕ)) (e : Edit) (lt : k < length edits) (here : e ≡ get_or edits k e) (so_far : IsChoosing t to count edits k chosen) where
   abbrev rest : List Edit
   rest = drop (k + 1) edits
 
   cut : drop k edits ≡ e ∷ rest
   cut = drop-cons edits k e lt ∙ ap (λ x. x ∷ drop (suc k) edits) (sym here) ∙ rw add-one refl
 
-  left : AreLeafEdits count (e ∷ rest)
-  left = subst (AreLeafEdits count) cut so_far.rest
+  parts : IsSpot t e.spot × All (λ f. f.spot ≢ e.spot) rest × AreEdits t rest
+  unfolding AreEdits
+  parts = let left : AreEdits t (e ∷ rest) = subst (AreEdits t) cut so_far.rest in (left.0, left.2, left.3)
 
-  parts : IsLeafBelow count e.spot × All (λ f. f.spot ≢ e.spot) rest × AreLeafEdits count rest
-  unfolding AreLeafEdits
-  parts = (left.0, left.2, left.3)
+  pub spot_inside : IsSpot t e.spot
+  spot_inside = parts.0
 
-  pub below : m < count
-  below = subst (IsLeafBelow count) at_leaf parts.0
+  elsewhere : (s : Spot) → e.spot ≢ s → edit_at (drop k edits) s ≡ edit_at rest s
+  elsewhere s ne = ap (λ es. edit_at es s) cut ∙ edit_later e rest s ne
 
-  at_this : leaf_edit (drop k edits) m ≡ Some (items_text e.items)
-  unfolding leaf_edit
-  at_this =
-      let same : is_at_leaf e.spot m ≡ true = ap (λ s. is_at_leaf s m) at_leaf ∙ eq-eqb m m refl in
-      ap (λ es. leaf_edit es m) cut ∙ rw same refl
-
-  at_other : (i : ℕ) → (m ≡ i → ⊥) → leaf_edit (drop k edits) i ≡ leaf_edit rest i
-  unfolding leaf_edit
-  at_other i ne =
-      let other : is_at_leaf e.spot i ≡ false = ap (λ s. is_at_leaf s i) at_leaf ∙ ne_eqb m i ne in
-      ap (λ es. leaf_edit es i) cut ∙ rw other refl
-
-  not_again : leaf_edit rest m ≡ None
-  not_again = none_left rest m (subst (λ s. All (λ f. f.spot ≢ s) rest) at_leaf parts.1)
-
-  abbrev now : List (Option ℕ)
-  now = set chosen m (Some k)
-
-  in_list : m < length chosen
-  in_list = omega (arith, below, so_far.long)
-
-  -- nothing was chosen for the leaf before
-  was_free : (o : Option ℕ) → get_or chosen m None ≡ o → leaf_edit edits m ≡ Some (items_text e.items)
-  was_free None is = so_far.each m below ∙ (ap (λ o. or_else (edit_text edits o) (leaf_edit (drop k edits) m)) is ∙ at_this)
-  was_free (Some j) is = absurd (let none = so_far.fresh m j is in let some = at_this in cc)
-
-  text_here : items_text e.items ≡ items_text (get_or edits k no_edit).items
-  text_here = ap (λ (x : Edit). items_text x.items) (here ∙ same_at edits k e no_edit lt)
-
-  each_now : (i : ℕ) → i < count → (m ≡ i) ⊎ (m ≡ i → ⊥) → leaf_edit edits i ≡ or_else (edit_text edits (get_or now i None)) (leaf_edit rest i)
-  each_now i lt (inl same) =
-      subst (λ i. leaf_edit edits i ≡ or_else (edit_text edits (get_or now i None)) (leaf_edit rest i)) same
-      (was_free (get_or chosen m None) refl ∙ ap Some text_here ∙ sym (ap (λ o. or_else (edit_text edits o) (leaf_edit rest m)) (get_or-set_same chosen m (Some k) None in_list)))
-  each_now i lt (inr ne) =
-      so_far.each i lt
-      ∙ ap (λ o. or_else (edit_text edits (get_or chosen i None)) o) (at_other i ne)
-      ∙ sym (ap (λ o. or_else (edit_text edits o) (leaf_edit rest i)) (get_or-set_other chosen m i (Some k) None (λ e. ne (sym e))))
-
-  inside_now : (i j : ℕ) → (m ≡ i) ⊎ (m ≡ i → ⊥) → get_or now i None ≡ Some j → j < length edits
-  inside_now i j (inl same) is =
-      let this : Some k ≡ Some j = sym (get_or-set_same chosen m (Some k) None in_list) ∙ (ap (λ i. get_or now i None) same ∙ is) in
-      let same_place : k ≡ j = cc in
-      omega arith
-  inside_now i j (inr ne) is = so_far.inside i j (sym (get_or-set_other chosen m i (Some k) None (λ e. ne (sym e))) ∙ is)
-
-  fresh_now : (i j : ℕ) → (m ≡ i) ⊎ (m ≡ i → ⊥) → get_or now i None ≡ Some j → leaf_edit rest i ≡ None
-  fresh_now i j (inl same) is = subst (λ i. leaf_edit rest i ≡ None) same not_again
-  fresh_now i j (inr ne) is = sym (at_other i ne) ∙ so_far.fresh i j (sym (get_or-set_other chosen m i (Some k) None (λ e. ne (sym e))) ∙ is)
-
-  pub chosen_here : IsChoosing count edits (k + 1) now
-  chosen_here = record {
-    long = length-set chosen m (Some k) ∙ so_far.long;
-    each = λ i lt. each_now i lt (cases_eq m i);
-    inside = λ i j. inside_now i j (cases_eq m i);
-    fresh = λ i j. fresh_now i j (cases_eq m i);
+  -- an edit at another kind of spot
+  pub chosen_past : ((i : ℕ) → e.spot ≢ to i) → IsChoosing t to count edits (k + 1) chosen
+  chosen_past other = record {
+    long = so_far.long;
+    each = λ i lt. so_far.each i lt ∙ ap (or_else (items_of edits (get_or chosen i None))) (elsewhere (to i) (other i));
+    inside = so_far.inside;
+    fresh = λ i j is. sym (elsewhere (to i) (other i)) ∙ so_far.fresh i j is;
     rest = parts.2;
   }
 
--- each edit is at a leaf
-pub at_some_leaf : (count : ℕ) (edits : List Edit) (k : ℕ) (e : Edit) → k < length edits → e ≡ get_or edits k e → AreLeafEdits count (drop k edits) → ((m : ℕ) → e.spot ≡ spot.Leaf m → ⊥) → ⊥
-unfolding AreLeafEdits
-at_some_leaf count edits k e lt here all none =
-    let cut : drop k edits ≡ e ∷ drop (k + 1) edits = drop-cons edits k e lt ∙ ap (λ x. x ∷ drop (suc k) edits) (sym here) ∙ rw add-one refl in
-    let left : AreLeafEdits count (e ∷ drop (k + 1) edits) = subst (AreLeafEdits count) cut all in
-    found e.spot refl left.0
+  module _ (m : ℕ) (at_spot : e.spot ≡ to m) (apart : (i j : ℕ) → to i ≡ to j → i ≡ j) (below : m < count) where
+    at_this : edit_at (drop k edits) (to m) ≡ Some e.items
+    at_this = ap (λ es. edit_at es (to m)) cut ∙ (ap (edit_at (e ∷ rest)) (sym at_spot) ∙ edit_here e rest)
+
+    not_again : edit_at rest (to m) ≡ None
+    not_again = none_left rest (to m) (subst (λ s. All (λ f. f.spot ≢ s) rest) at_spot parts.1)
+
+    other : (i : ℕ) → (m ≡ i → ⊥) → e.spot ≢ to i
+    other i ne same = ne (apart m i (sym at_spot ∙ same))
+
+    abbrev now : List (Option ℕ)
+    now = set chosen m (Some k)
+
+    in_list : m < length chosen
+    in_list = omega (arith, below, so_far.long)
+
+    -- nothing was chosen for the spot before
+    was_free : (o : Option ℕ) → get_or chosen m None ≡ o → edit_at edits (to m) ≡ Some e.items
+    was_free None is = so_far.each m below ∙ (ap (λ o. or_else (items_of edits o) (edit_at (drop k edits) (to m))) is ∙ at_this)
+    was_free (Some j) is = absurd (let none = so_far.fresh m j is in let some = at_this in cc)
+
+    text_here : e.items ≡ (get_or edits k no_edit).items
+    text_here = ap (λ (x : Edit). x.items) (here ∙ same_at edits k e no_edit lt)
+
+    each_now : (i : ℕ) → i < count → (m ≡ i) ⊎ (m ≡ i → ⊥) → edit_at edits (to i) ≡ or_else (items_of edits (get_or now i None)) (edit_at rest (to i))
+    each_now i lt (inl same) =
+        subst (λ i. edit_at edits (to i) ≡ or_else (items_of edits (get_or now i None)) (edit_at rest (to i))) same
+        (was_free (get_or chosen m None) refl ∙ ap (λ (is : List Item). Some is) text_here ∙ sym (ap (λ o. or_else (items_of edits o) (edit_at rest (to m))) (get_or-set_same chosen m (Some k) None in_list)))
+    each_now i lt (inr ne) =
+        so_far.each i lt
+        ∙ ap (or_else (items_of edits (get_or chosen i None))) (elsewhere (to i) (other i ne))
+        ∙ sym (ap (λ o. or_else (items_of edits o) (edit_at rest (to i))) (get_or-set_other chosen m i (Some k) None (λ e. ne (sym e))))
+
+    inside_now : (i j : ℕ) → (m ≡ i) ⊎ (m ≡ i → ⊥) → get_or now i None ≡ Some j → j < length edits
+    inside_now i j (inl same) is =
+        let this : Some k ≡ Some j = sym (get_or-set_same chosen m (Some k) None in_list) ∙ (ap (λ i. get_or now i None) same ∙ is) in
+        let same_place : k ≡ j = cc in
+        omega arith
+    inside_now i j (inr ne) is = so_far.inside i j (sym (get_or-set_other chosen m i (Some k) None (λ e. ne (sym e))) ∙ is)
+
+    fresh_now : (i j : ℕ) → (m ≡ i) ⊎ (m ≡ i → ⊥) → get_or now i None ≡ Some j → edit_at rest (to i) ≡ None
+    fresh_now i j (inl same) is = subst (λ i. edit_at rest (to i) ≡ None) same not_again
+    fresh_now i j (inr ne) is = sym (elsewhere (to i) (other i ne)) ∙ so_far.fresh i j (sym (get_or-set_other chosen m i (Some k) None (λ e. ne (sym e))) ∙ is)
+
+    pub chosen_here : IsChoosing t to count edits (k + 1) now
+    chosen_here = record {
+      long = length-set chosen m (Some k) ∙ so_far.long;
+      each = λ i lt. each_now i lt (cases_eq m i);
+      inside = λ i j. inside_now i j (cases_eq m i);
+      fresh = λ i j. fresh_now i j (cases_eq m i);
+      rest = parts.2;
+    }
+
+-- spots of one kind are apart where their numbers are, and never of the other kind
+pub leaves_apart : (i j : ℕ) → leaf_spot i ≡ leaf_spot j → i ≡ j
+leaves_apart i j e = cc
+
+pub nodes_apart : (i j : ℕ) → node_spot i ≡ node_spot j → i ≡ j
+nodes_apart i j e = ap number e
   where
-    found : (s : Spot) → e.spot ≡ s → IsLeafBelow count s → ⊥
-    found (spot.Leaf m) is below = none m is
-    found (spot.Node n) is below = below
+    number : Spot → ℕ
+    number (spot.Node n) = n.0
+    number (spot.Leaf k) = 0
+
+-- before the first edit none is chosen
+pub none_chosen : (t : Arena) (to : ℕ → Spot) (count : ℕ) (edits : List Edit) (chosen : List (Option ℕ)) → AreEdits t edits → length chosen ≡ count → ((i : ℕ) → get_or chosen i None ≡ None) → IsChoosing t to count edits 0 chosen
+none_chosen t to count edits chosen fit long none = record {
+  long = long;
+  each = λ i lt. sym (ap (λ o. or_else (items_of edits o) (edit_at edits (to i))) (none i));
+  inside = λ i j is. absurd (let free = none i in cc);
+  fresh = λ i j is. absurd (let free = none i in cc);
+  rest = fit;
+}
 
 -- after the last edit all are chosen
-pub all_chosen : (count : ℕ) (edits : List Edit) (k : ℕ) (chosen : List (Option ℕ)) → length edits ≤ k → IsChoosing count edits k chosen → AreChosen count edits chosen
-unfolding leaf_edit
-all_chosen count edits k chosen le done = record {
+pub all_chosen : (t : Arena) (to : ℕ → Spot) (count : ℕ) (edits : List Edit) (k : ℕ) (chosen : List (Option ℕ)) → length edits ≤ k → IsChoosing t to count edits k chosen → AreChosen to count edits chosen
+unfolding edit_at
+all_chosen t to count edits k chosen le done = record {
   long = done.long;
-  each = λ i lt. done.each i lt ∙ ap (λ es. or_else (edit_text edits (get_or chosen i None)) (leaf_edit es i)) (drop_all k edits le) ∙ ends (edit_text edits (get_or chosen i None));
+  each = λ i lt. done.each i lt ∙ ap (λ es. or_else (items_of edits (get_or chosen i None)) (edit_at es (to i))) (drop_all k edits le) ∙ ends (items_of edits (get_or chosen i None));
   inside = done.inside;
 }
   where
-    ends : (o : Option (List ℕ)) → or_else o None ≡ o
+    ends : (o : Option (List Item)) → or_else o None ≡ o
     ends None = refl
-    ends (Some text) = refl
+    ends (Some items) = refl

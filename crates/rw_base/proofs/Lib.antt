@@ -2,3 +2,8 @@ pub mod PlaceLemmas
 pub mod Tiles
 pub mod NewTextLemmas
 pub mod Choosing
+pub mod Doing
+pub mod Touching
+pub mod TaskSteps
+pub mod Spans
+pub mod Calls

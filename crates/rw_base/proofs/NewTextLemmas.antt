@@ -1,15 +1,17 @@
 -- The new text, one leaf and one item after another.
-use Rattle.std.proofs.Common.{◌≡◌, ℕ, zero, suc, ◌+◌, ◌<◌, ◌≤◌, List, [], ◌∷◌, ◌++◌, length, take, drop, get_or, refl, sym, ap, ◌∙◌, append_assoc, append-nil, arith, add-one, drop-cons}
-use Rattle.std.specs.Prelude.{Option, Some, None, unwrap_or, slice_range}
+use Rattle.std.proofs.Common.{◌≡◌, ℕ, ◌+◌, ◌<◌, ◌≤◌, List, [], ◌∷◌, ◌++◌, length, drop, get_or, refl, sym, ap, ◌∙◌, append_assoc, append-nil, arith, add-one, drop-cons}
+use Rattle.std.specs.Prelude.{Option, Some, None, option_map, unwrap_or, slice_range}
 use Rattle.std.proofs.lemmas.List.{drop_all, take_all}
 use Rattle.rw_base.specs.declared.tree.Leaf.{Leaf}
 use Rattle.rw_base.specs.declared.edit.Item.{Item}
+use Rattle.rw_base.specs.declared.edit.Spot.{Spot}
 use Rattle.rw_base.specs.declared.edit.Edit.{Edit}
 use Rattle.rw_base.specs.Arena.{Arena, Tile, end_from, end_of, leaf_at, no_leaf, prefix_of, text_of}
-use Rattle.rw_base.specs.NewText.{item_text, items_text, leaf_edit, leaves_new, new_text}
-use Rattle.rw_base.specs.Chosen.{no_edit, edit_text, AreChosen}
-use Rattle.rw_base.specs.Laws.{joined_slices, empty_slice}
-use Rattle.rw_base.proofs.Tiles.{IsWithin, within}
+use Rattle.rw_base.specs.NewText.{item_text, items_text, leaf_edit, leaves_new, edit_at}
+use Rattle.rw_base.specs.Chosen.{no_edit, leaf_spot, items_of, AreChosen}
+use Rattle.rw_base.specs.Gaps.{start_of}
+use Rattle.rw_base.specs.Starts.{IsThere, there}
+use Rattle.rw_base.specs.Joins.{joined_slices, empty_slice}
 use Rattle.rw_base.proofs.Choosing.{same_at}
 
 next : {A : Type 0} (xs : List A) (k : ℕ) (d : A) → k < length xs → drop k xs ≡ get_or xs k d ∷ drop (k + 1) xs
@@ -21,29 +23,13 @@ items_next so_far out is k d lt e =
 
 -- ---- where leaves begin
 
--- the byte at which leaf i begins
-abbrev pub start_of : List Leaf → ℕ → ℕ
-start_of ls i = end_from 0 (take i ls)
-
-pub record IsThere (at : ℕ) (ls : List Leaf) (i : ℕ) (l : Leaf) : Type 0 where
-  pub begins : end_from at (take i ls) ≡ l.prefix_from
-  pub ends : end_from at (take (i + 1) ls) ≡ l.to
-
-pub there : (at : ℕ) (ls : List Leaf) (i : ℕ) (d : Leaf) → Tile at ls → i < length ls → IsThere at ls i (get_or ls i d)
-there at [] i d h lt = absurd (omega arith)
-there at (l ∷ ls) zero d h lt = record { begins = sym h.0; ends = refl }
-there at (l ∷ ls) (suc i) d h lt =
-    let t = there l.to ls i d h.3 (omega arith) in
-    record { begins = t.begins; ends = rw add-one (rw add-one at t.ends) }
-
 -- What `rearranged` has copied when it comes to leaf i: the new text is what is out, the bytes from there to the
 -- leaf, and the new text from the leaf on.
 pub record IsCopied (t : Arena) (bytes : List ℕ) (edits : List Edit) (i copied : ℕ) (out : List ℕ) : Type 0 where
   pub before : copied ≤ start_of t.leaves i
-  pub text : new_text t bytes edits ≡ (out ++ slice_range bytes copied (start_of t.leaves i)) ++ leaves_new edits bytes i (drop i t.leaves)
+  pub text : leaves_new edits bytes 0 t.leaves ≡ (out ++ slice_range bytes copied (start_of t.leaves i)) ++ leaves_new edits bytes i (drop i t.leaves)
 
 pub nothing_copied : (t : Arena) (bytes : List ℕ) (edits : List Edit) (out : List ℕ) → out ≡ [] → IsCopied t bytes edits 0 0 out
-unfolding new_text
 nothing_copied t bytes edits out e = record {
   before = omega arith;
   text = ap (λ o. o ++ leaves_new edits bytes 0 t.leaves) (sym (ap (λ o. o ++ slice_range bytes 0 0) e ∙ empty_slice bytes 0));
@@ -60,25 +46,21 @@ module _ (t : Arena) (bytes : List ℕ) (edits : List Edit) (i copied : ℕ) (ou
   unfolding leaf_at
   spot = there 0 t.leaves i no_leaf tile lt
 
-  inside : IsWithin 0 t.leaves l
-  unfolding leaf_at
-  inside = within 0 t.leaves i l tile lt (same_at t.leaves i no_leaf l lt)
-
   step : leaves_new edits bytes i (drop i t.leaves) ≡ (prefix_of bytes l ++ unwrap_or (leaf_edit edits i) (text_of bytes l)) ++ more
   unfolding leaf_at leaves_new
   step = ap (leaves_new edits bytes i) (next t.leaves i no_leaf lt)
 
   -- the bytes up to this leaf's text
   pub before_text : copied ≤ l.from
-  before_text = omega (arith, so_far.before, spot.begins, inside.prefix)
+  before_text = omega (arith, so_far.before, spot.begins, spot.prefix)
 
   to_leaf : slice_range bytes copied (start_of t.leaves i) ≡ slice_range bytes copied l.prefix_from
   to_leaf = ap (slice_range bytes copied) spot.begins
 
   gap : slice_range bytes copied l.prefix_from ++ prefix_of bytes l ≡ slice_range bytes copied l.from
-  gap = joined_slices bytes copied l.prefix_from l.from (omega (arith, so_far.before, spot.begins)) inside.prefix
+  gap = joined_slices bytes copied l.prefix_from l.from (omega (arith, so_far.before, spot.begins)) spot.prefix
 
-  at_word : (word : List ℕ) → unwrap_or (leaf_edit edits i) (text_of bytes l) ≡ word → new_text t bytes edits ≡ ((out ++ slice_range bytes copied l.from) ++ word) ++ more
+  at_word : (word : List ℕ) → unwrap_or (leaf_edit edits i) (text_of bytes l) ≡ word → leaves_new edits bytes 0 t.leaves ≡ ((out ++ slice_range bytes copied l.from) ++ word) ++ more
   at_word word e =
       so_far.text
       ∙ (ap (λ (r : List ℕ). (out ++ slice_range bytes copied (start_of t.leaves i)) ++ r) (step ∙ ap (λ w. (prefix_of bytes l ++ w) ++ more) e)
@@ -91,10 +73,10 @@ module _ (t : Arena) (bytes : List ℕ) (edits : List Edit) (i copied : ℕ) (ou
 
   pub kept : leaf_edit edits i ≡ None → IsCopied t bytes edits (i + 1) copied out
   kept none = record {
-    before = omega (arith, so_far.before, spot.begins, spot.ends, inside.prefix, inside.text);
+    before = omega (arith, so_far.before, spot.begins, spot.ends, spot.prefix, spot.text);
     text = at_word (text_of bytes l) (ap (λ o. unwrap_or o (text_of bytes l)) none)
         ∙ (ap (λ g. g ++ more) (append_assoc out (slice_range bytes copied l.from) (text_of bytes l))
-        ∙ ap (λ g. (out ++ g) ++ more) (joined_slices bytes copied l.from l.to before_text inside.text ∙ ap (slice_range bytes copied) (sym spot.ends)));
+        ∙ ap (λ g. (out ++ g) ++ more) (joined_slices bytes copied l.from l.to before_text spot.text ∙ ap (slice_range bytes copied) (sym spot.ends)));
   }
 
   pub edited : (text : List ℕ) → leaf_edit edits i ≡ Some text → IsCopied t bytes edits (i + 1) l.to ((out ++ slice_range bytes copied l.from) ++ text)
@@ -105,7 +87,7 @@ module _ (t : Arena) (bytes : List ℕ) (edits : List Edit) (i copied : ℕ) (ou
   }
 
 pub all_copied : (t : Arena) (bytes : List ℕ) (edits : List Edit) (i copied : ℕ) (out : List ℕ) → length t.leaves ≤ i → length bytes ≡ end_of t → IsCopied t bytes edits i copied out
-    → (copied ≤ length bytes) × (out ++ slice_range bytes copied (length bytes) ≡ new_text t bytes edits)
+    → (copied ≤ length bytes) × (out ++ slice_range bytes copied (length bytes) ≡ leaves_new edits bytes 0 t.leaves)
 unfolding leaves_new
 all_copied t bytes edits i copied out le size done =
     let at_end : start_of t.leaves i ≡ length bytes = ap (end_from 0) (take_all i t.leaves le) ∙ sym size in
@@ -119,15 +101,24 @@ all_copied t bytes edits i copied out le size done =
 
 -- ---- the edit that was chosen for a leaf
 
-pub chosen_some : (count : ℕ) (edits : List Edit) (chosen : List (Option ℕ)) (i k : ℕ) (d : Option ℕ) (e : Edit) → AreChosen count edits chosen → i < length chosen → get_or chosen i d ≡ Some k
-    → (k < length edits) × (leaf_edit edits i ≡ Some (items_text (get_or edits k e).items))
-chosen_some count edits chosen i k d e all lt is =
-    let here : get_or chosen i None ≡ Some k = same_at chosen i None d lt ∙ is in
+pub chosen_some : (to : ℕ → Spot) (count : ℕ) (edits : List Edit) (chosen : List (Option ℕ)) (i k : ℕ) (d : Option ℕ) (e : Edit) → AreChosen to count edits chosen → i < count → get_or chosen i d ≡ Some k
+    → (k < length edits) × (edit_at edits (to i) ≡ Some (get_or edits k e).items)
+chosen_some to count edits chosen i k d e all lt is =
+    let here : get_or chosen i None ≡ Some k = same_at chosen i None d (omega (arith, all.long)) ∙ is in
     let inside : k < length edits = all.inside i k here in (
       inside,
-      all.each i (omega (arith, all.long)) ∙ (ap (edit_text edits) here ∙ ap (λ (x : Edit). Some (items_text x.items)) (same_at edits k no_edit e inside)),
+      all.each i lt ∙ (ap (items_of edits) here ∙ ap (λ (x : Edit). Some x.items) (same_at edits k no_edit e inside)),
     )
 
-pub chosen_none : (count : ℕ) (edits : List Edit) (chosen : List (Option ℕ)) (i : ℕ) (d : Option ℕ) → AreChosen count edits chosen → i < length chosen → get_or chosen i d ≡ None → leaf_edit edits i ≡ None
-chosen_none count edits chosen i d all lt is =
-    all.each i (omega (arith, all.long)) ∙ ap (edit_text edits) (same_at chosen i None d lt ∙ is)
+pub chosen_none : (to : ℕ → Spot) (count : ℕ) (edits : List Edit) (chosen : List (Option ℕ)) (i : ℕ) (d : Option ℕ) → AreChosen to count edits chosen → i < count → get_or chosen i d ≡ None → edit_at edits (to i) ≡ None
+chosen_none to count edits chosen i d all lt is =
+    all.each i lt ∙ ap (items_of edits) (same_at chosen i None d (omega (arith, all.long)) ∙ is)
+
+-- what is put in the place of a leaf's text
+pub leaf_some : (edits : List Edit) (i : ℕ) (is : List Item) → edit_at edits (leaf_spot i) ≡ Some is → leaf_edit edits i ≡ Some (items_text is)
+unfolding leaf_edit
+leaf_some edits i is e = ap (option_map items_text) e
+
+pub leaf_none : (edits : List Edit) (i : ℕ) → edit_at edits (leaf_spot i) ≡ None → leaf_edit edits i ≡ None
+unfolding leaf_edit
+leaf_none edits i e = ap (option_map items_text) e

@@ -1,11 +1,17 @@
 //! What every crate above stands on: want of memory, texts, places, trees, and their edits.
 #![tactic(auto)]
 
+mod chosen;
 mod edit;
+mod front_buffer;
+mod leaf_edits;
 mod memory;
+mod node_edits;
 mod place;
 mod reading;
 mod rearranging;
+#[cfg(test)]
+mod tests;
 mod text;
 mod tree;
 
@@ -13,6 +19,6 @@ pub use edit::{Edit, Item, Spot};
 pub use memory::{Mem, NoMemory};
 pub use place::{Cause, Place, ReadFault, Refused, place_of};
 pub use reading::Reading;
-pub use rearranging::rearranged;
+pub use rearranging::{gaps_stay, rearranged};
 pub use text::Text;
 pub use tree::{Leaf, NodeId, NodeRow, Part, Tree, print};

@@ -1,74 +1,48 @@
 // The new text of a tree with edits.
-ghost use Rattle.std.specs.Prelude.{◌≡◌, ◌≤◌, ◌++◌, length, slice_range, IfOk, OnOk};
-ghost use Rattle.rw_base.specs.Arena.{end_of};
-ghost use Rattle.rw_base.specs.NewText.{new_text, item_text, items_text, AreLeafEdits};
-ghost use Rattle.rw_base.specs.Chosen.{AreChosen};
+ghost use Rattle.std.specs.Prelude.{◌≡◌, ℕ, List, length, IfOk, IsTrue};
+ghost use Rattle.rw_base.specs.Arena.{Arena, IsTree, end_of};
+ghost use Rattle.rw_base.specs.NewText.{new_text, AreEdits, AreLeafEdits};
+ghost use Rattle.rw_base.specs.Gaps.{old_bytes, new_bytes, pieces_of};
 
-use crate::{Edit, Item, Mem, Spot, Tree};
+use crate::leaf_edits::with_leaves_edited;
+use crate::node_edits::with_nodes_edited;
+use crate::{Edit, Mem, Spot, Tree};
 use std::alloc::Global;
 
-fn push_item(out: &mut Vec<u8>, item: &Item) -> Mem<()>
-    ensures { OnOk result (out.new.items ≡ out.old.items ++ item_text item.now) }
+// Whether all edits are at leaves.
+fn are_at_leaves(tree: &Tree, edits: &[Edit]) -> bool
+    requires { AreEdits tree.now edits.now }
+    ensures { IsTrue result → AreLeafEdits (length tree.now.leaves) edits.now }
 {
-    if let Item::Text(text) = item {
-        out.extend_from_slice(text.as_slice())?;
-    }
-    Ok(())
-}
-
-// Appends the texts of a leaf's edit.
-#[tactic(auto, using(crate::proofs::NewTextLemmas::items_next))]
-fn push_items(out: &mut Vec<u8>, items: &[Item]) -> Mem<()>
-    ensures { OnOk result (out.new.items ≡ out.old.items ++ items_text items.now) }
-{
-    for item in items {
-        push_item(out, item)?;
-    }
-    Ok(())
-}
-
-// Appends a range of the old bytes.
-fn push_range(out: &mut Vec<u8>, bytes: &[u8], from: usize, to: usize) -> Mem<()>
-    requires order { from ≤ to }
-    requires inside { to ≤ length bytes.now }
-    ensures { OnOk result (out.new.items ≡ out.old.items ++ slice_range bytes.now from to) }
-{
-    out.extend_from_slice(&bytes[from..to])?;
-    Ok(())
-}
-
-// For each leaf the position of its edit, where it has one.
-fn chosen_edits(alloc: Global, leaf_count: u32, edits: &[Edit]) -> Mem<Vec<Option<usize>>>
-    requires { AreLeafEdits leaf_count edits.now }
-    ensures { IfOk result (λ chosen. AreChosen leaf_count edits.now chosen.items) }
-{
-    let mut chosen = vec![in alloc; None; leaf_count as usize]?;
-    for (k, edit) in edits.iter().enumerate() {
-        if let Spot::Leaf(i) = edit.spot {
-            chosen[i as usize] = Some(k);
+    let _ = tree;
+    for edit in edits {
+        if let Spot::Node(_) = edit.spot {
+            return false;
         }
     }
-    Ok(chosen)
+    true
 }
 
-/// The bytes of a tree with edits: each leaf keeps its prefix, and a leaf with an edit has the edit's texts in the
-/// place of its text. The edits come in any order. What isn't edited is copied in one piece from edit to edit.
+/// The bytes of a tree with edits. A node without an edit joins the new texts of its parts, and one with an edit the
+/// new texts of its items. A leaf keeps its prefix, and has the texts of its edit, or its own. The edits come in any
+/// order; one that no item reaches, below a node with an edit, vanishes. The time is linear in the bytes, old and
+/// new, and in the tree; its depth doesn't matter.
 pub fn rearranged(alloc: Global, tree: &Tree, bytes: &[u8], edits: &[Edit]) -> Mem<Vec<u8>>
     requires bytes { length bytes.now ≡ end_of tree.now }
-    requires edits { AreLeafEdits (length tree.now.leaves) edits.now }
+    requires edits { AreEdits tree.now edits.now }
     ensures { IfOk result (λ text. text.items ≡ new_text tree.now bytes.now edits.now) }
 {
-    let chosen = chosen_edits(alloc, tree.leaf_count(), edits)?;
-    let mut out = Vec::with_capacity(alloc, bytes.len())?;
-    let mut copied = 0;
-    for (i, edit) in chosen.iter().enumerate() {
-        if let Some(k) = edit {
-            let leaf = tree.leaf(i as u32);
-            push_range(&mut out, bytes, copied, leaf.from as usize)?;
-            push_items(&mut out, edits[*k].items.as_slice())?;
-            copied = leaf.to as usize;
-        }
+    if are_at_leaves(tree, edits) {
+        with_leaves_edited(alloc, tree, bytes, edits)
+    } else {
+        with_nodes_edited(alloc, tree, bytes, edits)
     }
-    push_range(&mut out, bytes, copied, bytes.len())?;
-    Ok(out)
 }
+
+/// The old bytes are gap, range, gap and so on, and the new bytes are the same gaps in the same order, with the new
+/// text of each outermost spot in the place of its range: of a node from its first prefix to its last text, of a leaf
+/// its text.
+pub fn gaps_stay()
+    ensures old { (t : Arena) (bytes : List ℕ) (edits : List Edit) → IsTree t → AreEdits t edits → length bytes ≡ end_of t → old_bytes (pieces_of t bytes edits) ≡ bytes }
+    ensures new { (t : Arena) (bytes : List ℕ) (edits : List Edit) → IsTree t → AreEdits t edits → new_bytes (pieces_of t bytes edits) ≡ new_text t bytes edits }
+{}

@@ -1,6 +1,7 @@
 // Lossless trees.
 ghost use Rattle.std.specs.Prelude.{◌≡◌, ◌<◌, ◌≤◌, ◌+◌, ◌++◌, length, OnOk, OnErr, IsOk, vec_len, vec_capacity};
 ghost use Rattle.rw_base.specs.Arena.{Arena, IsTree, AreBelow, leaf_at, kind_of, first_of, past_of, parts_of, prefix_of, text_of, print_of, end_of};
+ghost use Rattle.rw_base.specs.Laid.{kids_of, forest_of};
 
 use crate::Mem;
 use sqlite_items::Items;
@@ -85,7 +86,8 @@ impl Tree {
 
     /// How many nodes there are.
     pub fn node_count(&self) -> u32
-        ensures { result ≡ length self.now.nodes }
+        ensures count { result ≡ length self.now.nodes }
+        ensures tree { IsTree self.now }
     {
         self.nodes.len() as u32
     }
@@ -111,11 +113,12 @@ impl Tree {
         self.nodes[n.0 as usize].kind
     }
 
-    /// The parts of a node, in order: leaves, and nodes that stand before it.
-    #[tactic(auto, unfolding(crate::specs::Arena::row_at))]
+    /// The parts of a node, in order: leaves, and nodes that stand before it. Their trees are the node's.
+    #[tactic(auto, using(crate::specs::PartLaws::kids_at), unfolding(crate::specs::Arena::row_at))]
     pub fn parts(&self, n: NodeId) -> &[Part]
         requires { n.0 < length self.now.nodes }
         ensures parts { result.now ≡ parts_of self.now.nodes n.0 }
+        ensures kids { kids_of self.now.nodes n.0 ≡ forest_of self.now.nodes result.now }
         ensures below { AreBelow (length self.now.leaves) n.0 result.now }
     {
         self.nodes[n.0 as usize].parts.as_slice()
@@ -127,6 +130,7 @@ impl Tree {
         requires { n.0 < length self.now.nodes }
         ensures first { result.0 ≡ first_of self.now.nodes n.0 }
         ensures past { result.1 ≡ past_of self.now.nodes n.0 }
+        ensures tree { IsTree self.now }
     {
         let row = &self.nodes[n.0 as usize];
         (row.first, row.past)
