@@ -1,1 +1,3 @@
 pub mod KeyEdits
+pub mod Written
+pub mod Copied

@@ -1,6 +1,6 @@
 // Recipes on properties files.
 ghost use Rattle.std.specs.Prelude.{◌≡◌, IfOk, length};
-ghost use Rattle.rw_base.specs.NewText.{AreLeafEdits};
+ghost use Rattle.rw_base.specs.NewText.{AreEdits, AreLeafEdits};
 ghost use Rattle.properties_tree.specs.Layout.{tree_of};
 ghost use Rattle.conf_recipes.specs.PropertiesEdits.{key_edit, edits_of};
 
@@ -33,6 +33,7 @@ pub fn edits_in_properties(
     requires { tree.now ≡ tree_of bytes.now }
     ensures edits { IfOk result (λ edits. edits.items ≡ edits_of bytes.now options.now) }
     ensures leaves { IfOk result (λ edits. AreLeafEdits (length tree.now.leaves) edits.items) }
+    ensures fit { IfOk result (λ edits. AreEdits tree.now edits.items) }
 {
     let mut edits = Vec::new(alloc);
     for n in 0..entry_count(tree, bytes) {
@@ -55,6 +56,7 @@ pub fn edits_in_properties(
 #[cfg(test)]
 mod tests {
     use super::*;
+    use crate::renamed_in_properties;
     use properties_tree::read_properties;
     use rw_base::{print, rearranged};
     use std::test::Fail;
@@ -75,10 +77,12 @@ mod tests {
         let edits = edits_in_properties(rt.alloc(), &tree, bytes, &options)?;
         assert_eq!(rt; edits.len(), 3);
         let text = rearranged(rt.alloc(), &tree, bytes, &edits)?;
-        assert_eq!(rt;
-            text.as_slice(),
-            b"x\\==1\n#a\n x\\= : 2\nab=3\na\\\n b=4\nx\\=".as_slice()
-        );
+        let want = b"x\\==1\n#a\n x\\= : 2\nab=3\na\\\n b=4\nx\\=".as_slice();
+        assert_eq!(rt; text.as_slice(), want);
+        let same = renamed_in_properties(rt.alloc(), bytes, &options)?;
+        assert_eq!(rt; same.as_ref().map(|text| text.as_slice()), Some(want));
+        let none = renamed_in_properties(rt.alloc(), b"b=a\n#a\n", &options)?;
+        assert!(rt; none.is_none());
         Ok(())
     }
 }

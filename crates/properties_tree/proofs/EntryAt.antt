@@ -108,6 +108,16 @@ module _ (u : List ℕ) where
   pub separator-le : separator_size behind_key ≤ length behind_key
   separator-le = front_length behind_key (separator_front false (pieces_in behind_key)) separator
 
+-- the bytes of a separator, and what stands behind it, as those of a line
+pub size-le : (s : List ℕ) → separator_size s ≤ length s
+size-le s = front_length s (separator_front false (pieces_in s)) (separator_is_front false s (cut s))
+
+pub line_parts : (s : List ℕ) → line_size s ≡ separator_size s + line_size (drop (separator_size s) s)
+line_parts s =
+    let done = separator_front false (pieces_in s) in
+    ap (λ ps. length (raw ps)) (pieces-behind s done (separator_is_front false s (cut s)))
+    ∙ (ap length (raw-append done (pieces_in (drop (separator_size s) s))) ∙ length-append (raw done) (raw (pieces_in (drop (separator_size s) s))))
+
 pub line-le : (s : List ℕ) → line_size s ≤ length s
 line-le s = front_length s (pieces_in s) (line_front s (cut s))
 

@@ -1,10 +1,9 @@
 -- One byte more of a text, as the reader's loops go over it.
-use Rattle.std.proofs.Common.{◌≡◌, ℕ, suc, ◌+◌, ◌<◌, ◌≤◌, Bool, true, false, List, [], ◌∷◌, length, get_or, take, drop, refl, ◌∙◌, ap, arith, inl, inr, zero}
+use Rattle.std.proofs.Common.{◌≡◌, ℕ, suc, ◌+◌, ◌<◌, ◌≤◌, true, false, List, [], ◌∷◌, length, get_or, take, drop, refl, ◌∙◌, ap, arith, inl, inr, zero}
 use Rattle.std.specs.Prelude.{◌==◌}
-use Rattle.std.specs.List.{list_any}
 use Rattle.std.proofs.lemmas.List.{at_drop_more, at_drop_all}
 use Rattle.std.proofs.lemmas.Bool.{or_parts, or_from, cases_Bool}
-use Rattle.properties_tree.specs.Characters.{is_line_end, is_blank}
+use Rattle.properties_tree.specs.Characters.{is_line_end, is_blank, has_backslash}
 use Rattle.properties_tree.specs.Lines.{leading_blanks, unblanked}
 use Rattle.properties_tree.specs.Sizes.{text_length}
 
@@ -27,9 +26,6 @@ text_past s i h = at_drop_all text_length s i h
 pub blanks_past : (s : List ℕ) (i : ℕ) → length s ≤ i → length (leading_blanks (drop i s)) ≡ 0
 blanks_past s i h = at_drop_all (λ (t : List ℕ). length (leading_blanks t)) s i h
 
-abbrev pub has_backslash : List ℕ → Bool
-has_backslash s = list_any (λ b. b == 92) s
-
 pub none_in_drop : (n : ℕ) (s : List ℕ) → has_backslash s ≡ false → has_backslash (drop n s) ≡ false
 none_in_drop zero s none = none
 none_in_drop (suc n) [] none = none
@@ -41,6 +37,13 @@ none_in_take (suc n) [] none = none
 none_in_take (suc n) (b ∷ rest) none =
     let parts = or_parts (b == 92) (has_backslash rest) none in
     or_from (b == 92) (has_backslash (take n rest)) parts.0 (none_in_take n rest parts.1)
+
+pub plain_more : (i : ℕ) (s : List ℕ) → i < length s → has_backslash (take i s) ≡ false → (get_or s i 0 == 92) ≡ false → has_backslash (take (suc i) s) ≡ false
+plain_more i [] h none other = absurd (omega arith)
+plain_more zero (b ∷ rest) h none other = rw other refl
+plain_more (suc i) (b ∷ rest) h none other =
+    let parts = or_parts (b == 92) (has_backslash (take i rest)) none in
+    or_from (b == 92) (has_backslash (take (suc i) rest)) parts.0 (plain_more i rest (omega arith) parts.1 other)
 
 pub unblanked_is : (s : List ℕ) → unblanked s ≡ drop (length (leading_blanks s)) s
 unblanked_is [] = refl

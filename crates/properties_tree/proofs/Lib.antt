@@ -17,3 +17,6 @@ pub mod Alone
 pub mod ValueSpelling
 pub mod ReadBack
 pub mod ValueBack
+pub mod Keyed
+pub mod Absent
+pub mod Counted

@@ -1,11 +1,12 @@
 -- One piece more of a logical line, as the reader's loops go over it.
-use Rattle.std.proofs.Common.{◌≡◌, ℕ, zero, suc, ◌+◌, ◌<◌, ◌≤◌, Bool, true, false, List, [], ◌∷◌, ◌++◌, length, get_or, take, drop, refl, sym, ◌∙◌, ap, arith, append_assoc, append-nil, length-append, length-drop}
-use Rattle.std.specs.Prelude.{◌==◌}
-use Rattle.std.proofs.lemmas.Bool.{false≢true, eqb-true}
+use Rattle.std.proofs.Common.{◌≡◌, ℕ, zero, suc, ◌+◌, ◌<◌, ◌≤◌, Bool, true, false, List, [], ◌∷◌, ◌++◌, length, get_or, take, drop, refl, sym, ◌∙◌, ap, arith, append_assoc, append-nil, length-append, length-drop, add-one}
+use Rattle.std.specs.Prelude.{◌==◌, ◌||◌}
+use Rattle.std.proofs.lemmas.Bool.{false≢true, eqb-true, or_parts, not-true}
 use Rattle.std.proofs.lemmas.List.{drop_more, drop_all, drop-drop, length-take-le}
-use Rattle.properties_tree.specs.Characters.{is_line_end, is_blank, is_separator, ends_key, backslash}
+use Rattle.properties_tree.specs.Characters.{is_line_end, is_blank, is_separator, ends_key, backslash, has_backslash, is_plain, is_plain_in_key}
 use Rattle.properties_tree.specs.Entries.{Piece, char, joint, raw, meant, through, key_length}
-use Rattle.properties_tree.specs.Cutting.{joins, joint_size, pieces_in, key_front, separator_front, separator_from, key_size, separator_size, line_size, IsChar, IsPair, IsJoint}
+use Rattle.properties_tree.specs.Cutting.{joins, joint_size, pieces_in, key_front, separator_front, separator_from, key_size, separator_size, line_size, ends_at, key_end, IsChar, IsPair, IsJoint}
+use Rattle.properties_tree.proofs.Lengths.{plain_more}
 use Rattle.properties_tree.proofs.Cut.{at_none, at_end, at_char, at_pair, at_joint, joint_size-le}
 
 -- ---- the next piece
@@ -58,15 +59,6 @@ module _ (s : List ℕ) (at : ℕ) (inside : at < length s) where
   next_pair slash j = pair_in (drop (at + 1) s) refl slash j
 
 -- ---- the end of a key
-
--- the end of a part of which so many characters are to come: where the last one ended, or behind those
-abbrev pub ends_at : ℕ → ℕ → ℕ → ℕ
-ends_at zero last past = last
-ends_at (suc n) last past = past
-
--- where a key ends whose last character so far ends at e, where these pieces stand next, at a
-abbrev pub key_end : ℕ → ℕ → List Piece → ℕ
-key_end e a ps = ends_at (key_length (meant ps)) e (a + length (raw (key_front ps)))
 
 one_more : (n e a b : ℕ) (ps : List Piece) → ends_at (suc n) e (a + length (raw (through (suc n) (char b ∷ ps)))) ≡ ends_at n (a + 1) (a + 1 + length (raw (through n ps)))
 one_more zero e a b ps = omega arith
@@ -187,6 +179,35 @@ module _ (s : List ℕ) (a : ℕ) where
 
     pub meant_over : pieces_in (drop a s) ≡ [] → out ++ meant (pieces_in (drop a s)) ≡ out
     meant_over none = ap (λ ps. out ++ meant ps) none ∙ append-nil out
+
+  -- a character and a run of them behind it
+  pub line_run : (b n : ℕ) (t : List ℕ) → IsChar s a b → t ≡ drop (a + 1) s → line_size t ≡ n + line_size (drop n t) → line_size (drop a s) ≡ 1 + n + line_size (drop (a + (1 + n)) s)
+  line_run b n t next is run =
+      let sum : a + 1 + n ≡ a + (1 + n) = omega arith in
+      let rest : drop n t ≡ drop (a + (1 + n)) s = ap (drop n) is ∙ (drop-drop n (a + 1) s ∙ ap (λ k. drop k s) sum) in
+      line_char b next ∙ (ap (λ u. 1 + line_size u) (sym is) ∙ (ap (λ k. 1 + k) (run ∙ ap (λ u. n + line_size u) rest) ∙ omega arith))
+
+-- ---- runs of characters that stand for themselves
+
+plain_parts : (b : ℕ) → is_plain b ≡ true → (is_line_end b ≡ false) × ((b == 92) ≡ false)
+plain_parts b plain = or_parts (is_line_end b) (b == 92) (not-true _ plain)
+
+module _ (s : List ℕ) (i : ℕ) (inside : i < length s) where
+  pub plain_char : is_plain (get_or s i 0) ≡ true → line_size (drop i s) ≡ 1 + line_size (drop (i + 1) s)
+  plain_char plain = let parts = plain_parts (get_or s i 0) plain in line_char s i (get_or s i 0) (next_char s i inside parts.0 parts.1)
+
+  pub plain_in_key : is_plain_in_key (get_or s i 0) ≡ true → key_end i i (pieces_in (drop i s)) ≡ key_end (i + 1) (i + 1) (pieces_in (drop (i + 1) s))
+  plain_in_key plain =
+      let all = or_parts (is_line_end (get_or s i 0) || (get_or s i 0 == 92)) (ends_key (get_or s i 0)) (not-true _ plain) in
+      let parts = or_parts (is_line_end (get_or s i 0)) (get_or s i 0 == 92) all.0 in
+      key_char s i i (get_or s i 0) (next_char s i inside parts.0 parts.1) all.1
+
+  pub plain_no_slash : is_plain_in_key (get_or s i 0) ≡ true → has_backslash (take i s) ≡ false → has_backslash (take (i + 1) s) ≡ false
+  plain_no_slash plain none =
+      let all = or_parts (is_line_end (get_or s i 0) || (get_or s i 0 == 92)) (ends_key (get_or s i 0)) (not-true _ plain) in
+      rw add-one (plain_more i s inside none (or_parts (is_line_end (get_or s i 0)) (get_or s i 0 == 92) all.0).1)
+
+pub ruleset over_runs = (plain_char, plain_in_key, plain_no_slash, key_from_start)
 
 pub ruleset over_line = (line_char, line_pair, line_joint, line_over, next_none)
 

@@ -2,11 +2,10 @@
 use Rattle.std.proofs.Common.{◌≡◌, ℕ, zero, suc, true, false, List, [], ◌∷◌, ◌++◌, get_or, drop, refl, sym, ◌∙◌, ap, inl, inr}
 use Rattle.std.specs.Prelude.{◌==◌}
 use Rattle.std.proofs.lemmas.Bool.{cases_Bool, false≢true, or_parts}
-use Rattle.properties_tree.specs.Characters.{backslash}
+use Rattle.properties_tree.specs.Characters.{backslash, has_backslash}
 use Rattle.properties_tree.specs.Lines.{Line, lines_of, leading_blanks, unblanked, whole_line, goes_on}
 use Rattle.properties_tree.specs.Entries.{Logical, passed, entry, Piece, char, joint, raw, meant, chars, without_last, key_length, separator_length, Joined, joined, through, behind, Entry, entry_of, entries_of, properties_of, no_entry, logical_lines}
 use Rattle.properties_tree.specs.Decoding.{elements_behind, text_of, decoded, key_text, entry_at}
-use Rattle.properties_tree.proofs.Lengths.{has_backslash}
 use Rattle.properties_tree.proofs.Plain.{meant-chars}
 
 abbrev pub AreMarked : List Piece → Type 0
@@ -68,7 +67,7 @@ marked-entry_at bytes k = marked-at [] (logical_lines (lines_of bytes)) k
 
 -- ---- plain texts
 
-has_in-append : (s t : List ℕ) → has_backslash (s ++ t) ≡ false → (has_backslash s ≡ false) × (has_backslash t ≡ false)
+pub has_in-append : (s t : List ℕ) → has_backslash (s ++ t) ≡ false → (has_backslash s ≡ false) × (has_backslash t ≡ false)
 has_in-append [] t none = (refl, none)
 has_in-append (b ∷ rest) t none =
     let parts = or_parts (b == 92) (has_backslash (rest ++ t)) none in

@@ -8,6 +8,7 @@ use Rattle.properties_tree.specs.Characters.{is_blank, backslash}
 use Rattle.properties_tree.specs.Lines.{Line, whole_line, begins_with_lf, lines_of, with_text, with_ending, leading_blanks, unblanked, is_passed_over, goes_on, backslashes_behind, is_odd}
 use Rattle.properties_tree.specs.Entries.{Logical, grouped, Piece, char, joint, raw, chars, without_last, Joined, joined, through, behind, Entry, entry_of, key_length, separator_length, meant, Properties, entries_of, properties_of, no_entry}
 use Rattle.properties_tree.specs.Laws.{whole_entry, whole_of}
+use Rattle.properties_tree.specs.Sizes.{entries_from}
 use Rattle.properties_tree.specs.Layout.{leaves_from, entry_end, tree_of}
 use Rattle.properties_tree.proofs.Made.{four_more, ending_to, ending_to-is, length-leaves_from, length-nodes}
 use Rattle.properties_tree.specs.Decoding.{entry_at}
@@ -193,6 +194,11 @@ pub whole-properties_of : (bytes : List ℕ) → whole_of (properties_of bytes).
 unfolding properties_of
 whole-properties_of bytes = (are_whole (lines_of bytes)).fresh [] ∙ whole-lines_of bytes
 
+-- the same of the entries from a line on, behind a prefix
+pub whole-entries_from : (before text : List ℕ) → whole_of (entries_from before text).entries (entries_from before text).rest ≡ before ++ text
+unfolding entries_from
+whole-entries_from before text = (are_whole (lines_of text)).fresh before ∙ ap (λ t. before ++ t) (whole-lines_of text)
+
 -- ---- leaves
 
 entry_end-is : (at : ℕ) (e : Entry) → entry_end at e ≡ at + length (whole_entry e)
@@ -206,7 +212,7 @@ end_from-leaves at (e ∷ es) rest =
     ∙ (end_from-leaves (entry_end at e) es rest
     ∙ (let here = entry_end-is at e in let all = length-append (whole_entry e) (whole_of es rest) in omega arith))
 
-part_at : (bytes a b c : List ℕ) (from to : ℕ) → bytes ≡ a ++ (b ++ c) → length a ≡ from → from + length b ≡ to → slice_range bytes from to ≡ b
+pub part_at : (bytes a b c : List ℕ) (from to : ℕ) → bytes ≡ a ++ (b ++ c) → length a ≡ from → from + length b ≡ to → slice_range bytes from to ≡ b
 part_at bytes a b c from to all front back =
     let size : to - from ≡ length b = omega arith in
     rw (size, all) (rw (drop_at a (b ++ c) from front) (take_at b c (length b) refl))

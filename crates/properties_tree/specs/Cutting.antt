@@ -61,6 +61,17 @@ separator_size text = length (raw (separator_front false (pieces_in text)))
 abbrev pub line_size : List ℕ → ℕ
 line_size text = length (raw (pieces_in text))
 
+-- ---- how far a key is read
+
+-- the end of a part of which so many characters are to come: where the last one ended, or behind those
+abbrev pub ends_at : ℕ → ℕ → ℕ → ℕ
+ends_at zero last past = last
+ends_at (suc n) last past = past
+
+-- where a key ends whose last character so far ends at e, where these pieces stand next, at a
+abbrev pub key_end : ℕ → ℕ → List Piece → ℕ
+key_end e a ps = ends_at (key_length (meant ps)) e (a + length (raw (key_front ps)))
+
 -- ---- the next piece
 
 -- one character that is no backslash

@@ -1,7 +1,10 @@
 -- What holds of every file, key and value.
-use Rattle.std.specs.Prelude.{◌≡◌, ℕ, List, [], ◌∷◌, ◌++◌, length, ◌<◌}
+use Rattle.std.specs.Prelude.{◌≡◌, ℕ, ◌+◌, ◌*◌, ◌<◌, ◌≤◌, List, [], ◌∷◌, ◌++◌, length}
+use Rattle.rw_base.specs.Arena.{IsTree}
 use Rattle.properties_tree.specs.Entries.{Entry, properties_of, raw}
 use Rattle.properties_tree.specs.Decoding.{key_text, value_text, entry_at}
+use Rattle.properties_tree.specs.Layout.{tree_of}
+use Rattle.properties_tree.specs.declared.reader.TheConstants.{MOST_BYTES}
 use Rattle.properties_tree.specs.Spelling.{spelled_key, spelled_value}
 
 -- an entry as it stands in its file
@@ -16,6 +19,14 @@ whole_of (e ∷ es) rest = whole_entry e ++ whole_of es rest
 -- The parts of the entries and the rest, joined, are the bytes.
 abbrev pub PartsAreTheFile : Type 0
 PartsAreTheFile = (bytes : List ℕ) → whole_of (properties_of bytes).entries (properties_of bytes).rest ≡ bytes
+
+-- The tree of a file that isn't too large is one.
+abbrev pub FilesHaveTrees : Type 0
+FilesHaveTrees = (bytes : List ℕ) → length bytes ≤ MOST_BYTES → IsTree (tree_of bytes)
+
+-- It has four leaves for each entry, and the end.
+abbrev pub EntriesHaveFourLeaves : Type 0
+EntriesHaveFourLeaves = (bytes : List ℕ) → length (tree_of bytes).leaves ≡ 4 * length (properties_of bytes).entries + 1
 
 -- A text begins with an entry that has this key.
 pub record BeginsWithKey (text key : List ℕ) : Type 0 where

@@ -9,4 +9,5 @@ pub mod Reading
 pub mod Refusal
 pub mod Cutting
 pub mod Steps
+pub mod Keys
 pub mod Laws

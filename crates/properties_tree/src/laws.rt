@@ -1,9 +1,15 @@
 // Laws of the format: functions that do nothing, whose clauses hold of every file, key and value.
-ghost use Rattle.properties_tree.specs.Laws.{PartsAreTheFile, KeysReadBack, SomeKeysReadBack, ValuesReadBack, ValuesReadBackBehindSome};
+ghost use Rattle.properties_tree.specs.Laws.{PartsAreTheFile, FilesHaveTrees, EntriesHaveFourLeaves, KeysReadBack, SomeKeysReadBack, ValuesReadBack, ValuesReadBackBehindSome};
 
 /// The parts of a file's entries and what stands behind them, joined, are its bytes: nothing is lost.
 pub fn parts_are_the_file()
     ensures { PartsAreTheFile }
+{}
+
+/// The tree of a file that isn't too large is one, and has four leaves for each entry and the end.
+pub fn files_have_trees()
+    ensures tree { FilesHaveTrees }
+    ensures leaves { EntriesHaveFourLeaves }
 {}
 
 /// A spelled key with `=` or `:` behind it reads back as that key, whatever text follows. Behind a key that isn't empty

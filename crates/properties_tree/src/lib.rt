@@ -3,6 +3,7 @@
 
 mod bytes;
 mod decoding;
+mod keys;
 mod laws;
 mod layout;
 mod lines;
@@ -14,7 +15,8 @@ mod spelling;
 mod tests;
 mod tree;
 
-pub use laws::{keys_read_back, parts_are_the_file, values_read_back};
+pub use keys::{KeyPlace, next_with_key};
+pub use laws::{files_have_trees, keys_read_back, parts_are_the_file, values_read_back};
 pub use layout::{END, ENDING, ENTRY, FILE, KEY, SEPARATOR, VALUE};
 pub use option::PropertiesChangePropertyKey;
 pub use reader::{MOST_BYTES, read_properties};

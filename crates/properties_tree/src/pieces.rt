@@ -1,9 +1,10 @@
 // Logical lines, piece by piece.
-ghost use Rattle.std.specs.Prelude.{◌≡◌, ◌++◌, ◌∷◌, ◌≤◌, length, IfOk};
+ghost use Rattle.std.specs.Prelude.{◌≡◌, ◌++◌, ◌∷◌, ◌+◌, ◌≤◌, length, take, drop, false, IfOk};
+ghost use Rattle.properties_tree.specs.Characters.{has_backslash};
 ghost use Rattle.properties_tree.specs.Entries.{meant};
-ghost use Rattle.properties_tree.specs.Cutting.{joins, joint_size, key_size, separator_size, line_size, pieces_in, IsNext};
+ghost use Rattle.properties_tree.specs.Cutting.{joins, joint_size, key_size, separator_size, line_size, pieces_in, key_end, IsNext};
 
-use crate::bytes::{ends_key, is_blank, is_line_end, is_separator};
+use crate::bytes::{ends_key, is_blank, is_line_end, is_plain, is_plain_in_key, is_separator};
 use crate::lines::{blanks_length, ending_length};
 use rw_base::Mem;
 use std::alloc::Global;
@@ -58,14 +59,31 @@ fn next_at(text: &[u8], at: usize) -> Next
     }
 }
 
-// The bytes of the key that a text begins with.
+// How many characters that stand for themselves a key begins with.
+#[tactic(auto, using(crate::proofs::Loops::over_runs))]
+pub fn plain_key(text: &[u8]) -> usize
+    ensures value { key_size text.now ≡ key_end result result (pieces_in (drop result text.now)) }
+    ensures plain { has_backslash (take result text.now) ≡ false }
+    ensures inside { result ≤ length text.now }
+{
+    for (i, b) in text.iter().enumerate() {
+        if !is_plain_in_key(*b) {
+            return i;
+        }
+    }
+    text.len()
+}
+
+// The bytes of the key that a text begins with, where so many characters are read.
 #[tactic(auto, using(crate::proofs::Loops::over_key))]
-pub fn key_size(text: &[u8]) -> usize
+pub fn key_size_behind(text: &[u8], read: usize) -> usize
+    requires value { key_size text.now ≡ key_end read read (pieces_in (drop read text.now)) }
+    requires inside { read ≤ length text.now }
     ensures value { result ≡ key_size text.now }
     ensures inside { result ≤ length text.now }
 {
-    let mut at = 0;
-    let mut end = 0;
+    let mut at = read;
+    let mut end = read;
     while at < text.len() {
         match next_at(text, at) {
             Next::End => return end,
@@ -84,6 +102,14 @@ pub fn key_size(text: &[u8]) -> usize
         }
     }
     end
+}
+
+// The bytes of the key that a text begins with.
+pub fn key_size(text: &[u8]) -> usize
+    ensures value { result ≡ key_size text.now }
+    ensures inside { result ≤ length text.now }
+{
+    key_size_behind(text, plain_key(text))
 }
 
 // The bytes of the separator that a text begins with.
@@ -115,6 +141,20 @@ pub fn separator_size(text: &[u8]) -> usize
     end
 }
 
+// How many characters that stand for themselves a logical line begins with.
+#[tactic(auto, using(crate::proofs::Loops::over_runs))]
+fn plain_line(text: &[u8]) -> usize
+    ensures value { line_size text.now ≡ result + line_size (drop result text.now) }
+    ensures inside { result ≤ length text.now }
+{
+    for (i, b) in text.iter().enumerate() {
+        if !is_plain(*b) {
+            return i;
+        }
+    }
+    text.len()
+}
+
 // The bytes of the logical line that a text begins with, without its line end.
 #[tactic(auto, using(crate::proofs::Loops::over_line))]
 pub fn line_size(text: &[u8]) -> usize
@@ -125,7 +165,7 @@ pub fn line_size(text: &[u8]) -> usize
     while at < text.len() {
         match next_at(text, at) {
             Next::End => return at,
-            Next::Char(_) => at += 1,
+            Next::Char(_) => at += 1 + plain_line(&text[at + 1..]),
             Next::Pair(_) => at += 2,
             Next::Joint(size) => at += size,
         }

@@ -3,8 +3,8 @@ ghost use Rattle.std.specs.Prelude.{◌≡◌};
 ghost use Rattle.properties_tree.specs.Layout.{tree_of};
 
 use crate::{
-    MOST_BYTES, entry_count, has_key, key_leaf, key_of, read_properties, spell_key, spell_value,
-    value_of,
+    KeyPlace, MOST_BYTES, entry_count, has_key, key_leaf, key_of, next_with_key, read_properties,
+    spell_key, spell_value, value_of,
 };
 use rw_base::{Cause, Mem, NodeId, ReadFault, Tree};
 use std::alloc::Global;
@@ -210,5 +210,25 @@ fn keys_and_limits(rt: HostRuntime) -> Result<(), Fail> {
     };
     assert_eq!(rt; refused.cause, Cause::TooLarge);
     assert_eq!(rt; refused.place.byte, 2_097_152);
+    Ok(())
+}
+
+#[test]
+fn keys_are_found(rt: HostRuntime) -> Result<(), Fail> {
+    let alloc = rt.alloc();
+    let text = b"# a=0\nb=1\n  a = 2\r\nab=3\n\\u0061\\\n  =4\nc=\\\na=5\na";
+    let table = [
+        (0, Some((12, 13, 19))),
+        (19, Some((24, 30, 37))),
+        (37, Some((45, 46, 46))),
+        (46, None),
+    ];
+    for (at, want) in table {
+        assert!(rt; at <= text.len());
+        let found = next_with_key(alloc, text, at, b"a")?;
+        let want = want.map(|(from, to, next)| KeyPlace { from, to, next });
+        assert_eq!(rt; found, want, "behind {at}");
+    }
+    assert_eq!(rt; next_with_key(alloc, text, 0, b"a=0")?, None);
     Ok(())
 }

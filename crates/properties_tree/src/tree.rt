@@ -1,5 +1,6 @@
 // What the tree of a properties file says of its entries.
-ghost use Rattle.std.specs.Prelude.{◌≡◌, ◌<◌, ◌+◌, ◌*◌, ◌↔◌, IsTrue, IfOk, length};
+ghost use Rattle.std.specs.Prelude.{◌≡◌, ◌<◌, ◌+◌, ◌*◌, ◌↔◌, false, IsTrue, IfOk, length};
+ghost use Rattle.properties_tree.specs.Characters.{has_backslash};
 ghost use Rattle.properties_tree.specs.Entries.{properties_of, raw};
 ghost use Rattle.properties_tree.specs.Decoding.{key_text, value_text, entry_at};
 ghost use Rattle.properties_tree.specs.Layout.{tree_of, key_leaf_of};
@@ -73,17 +74,53 @@ pub fn value_of(alloc: Global, tree: &Tree, bytes: &[u8], entry: NodeId) -> Mem<
     said_by(alloc, value_bytes(tree, bytes, entry))
 }
 
-/// Whether an entry's key, decoded, is this one. Takes no memory where the key's bytes have no backslash.
+// Whether a backslash stands in these bytes, where it may be known that none does.
+fn is_marked(part: &[u8], plain: bool) -> bool
+    requires { IsTrue plain → has_backslash part.now ≡ false }
+    ensures { result ≡ has_backslash part.now }
+{
+    if plain {
+        return false;
+    }
+    part.contains(&b'\\')
+}
+
+// Whether these bytes, which are an entry's key, say this key. Takes no memory where they have no backslash, which may
+// be known.
 #[tactic(auto, using(crate::proofs::InTree::what_is_said))]
+pub(crate) fn says_key(
+    alloc: Global,
+    bytes: &[u8],
+    n: u32,
+    part: &[u8],
+    plain: bool,
+    key: &[u8],
+) -> Mem<bool>
+    requires part { part.now ≡ raw (entry_at bytes.now n).key }
+    requires plain { IsTrue plain → has_backslash part.now ≡ false }
+    ensures { IfOk result (λ same. IsTrue same ↔ (key_text (entry_at bytes.now n) ≡ key.now)) }
+{
+    let _ = bytes;
+    let _ = n;
+    if is_marked(part, plain) {
+        let said = said_by(alloc, part)?;
+        return Ok(said.as_slice() == key);
+    }
+    Ok(part == key)
+}
+
+/// Whether an entry's key, decoded, is this one. Takes no memory where the key's bytes have no backslash.
 pub fn has_key(alloc: Global, tree: &Tree, bytes: &[u8], entry: NodeId, key: &[u8]) -> Mem<bool>
     requires tree { tree.now ≡ tree_of bytes.now }
     requires there { entry.0 < length (properties_of bytes.now).entries }
     ensures { IfOk result (λ same. IsTrue same ↔ (key_text (entry_at bytes.now entry.0) ≡ key.now)) }
 {
-    let part = key_bytes(tree, bytes, entry);
-    if part.contains(&b'\\') {
-        let said = said_by(alloc, part)?;
-        return Ok(said.as_slice() == key);
-    }
-    Ok(part == key)
+    says_key(
+        alloc,
+        bytes,
+        entry.0,
+        key_bytes(tree, bytes, entry),
+        false,
+        key,
+    )
 }

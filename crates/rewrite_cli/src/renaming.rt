@@ -4,9 +4,9 @@ ghost use Rattle.std.specs.Str.{bytes_eq};
 ghost use Rattle.rewrite_cli.specs.Renaming.{new_bytes};
 ghost use Rattle.rewrite_cli.specs.Outcomes.{bytes_told, IsOther};
 
-use conf_recipes::edits_in_properties;
-use properties_tree::{MOST_BYTES, PropertiesChangePropertyKey, read_properties};
-use rw_base::{Mem, NoMemory, ReadFault, rearranged};
+use conf_recipes::renamed_in_properties;
+use properties_tree::{MOST_BYTES, PropertiesChangePropertyKey};
+use rw_base::Mem;
 use std::alloc::Global;
 
 /// What becomes of a properties file.
@@ -36,16 +36,12 @@ pub fn outcome_of(
     ensures bytes { IfOk result (λ told. bytes_told told bytes.now ≡ new_bytes options.now.old_property_key options.now.new_property_key bytes.now) }
     ensures other { IfOk result (λ told. IsOther told bytes.now) }
 {
-    let tree = match read_properties(alloc, bytes) {
-        Ok(tree) => tree,
-        Err(ReadFault::Refused(_)) => return Ok(Outcome::Refused),
-        Err(ReadFault::NoMemory) => return Err(NoMemory),
-    };
-    let edits = edits_in_properties(alloc, &tree, bytes, options)?;
-    if edits.is_empty() {
-        return Ok(Outcome::Kept);
+    if bytes.len() > MOST_BYTES {
+        return Ok(Outcome::Refused);
     }
-    let text = rearranged(alloc, &tree, bytes, &edits)?;
+    let Some(text) = renamed_in_properties(alloc, bytes, options)? else {
+        return Ok(Outcome::Kept);
+    };
     if text.len() > MOST_BYTES {
         return Ok(Outcome::Refused);
     }

@@ -1,16 +1,17 @@
 // A store over a real folder.
-ghost use Rattle.std.specs.Prelude.{◌≡◌, ◌≢◌, ◌≤◌, ◌^◌, false, IfOk, IfSome, OnErr, vec_len};
+ghost use Rattle.std.specs.Prelude.{◌≡◌, ◌≢◌, ◌+◌, ◌≤◌, ◌-◌, false, IfOk, IfSome, OnErr, vec_len, vec_capacity};
 ghost use Rattle.std.specs.FinMap as map;
 ghost use Rattle.rw_host.specs.Files.{Rose};
 
+use crate::full::{FullPath, folder_of};
 use crate::listing::listed;
 use crate::path::is_path;
 use crate::unsynced::Unsynced;
 use crate::{Failed, PathText, Store, StoreFault};
 use rw_base::Mem;
 use std::alloc::{AllocError, Global};
-use std::fs::File;
-use std::io::{ErrorKind, Read, Write};
+use std::fs::{File, OpenFile, OpenOptions};
+use std::io::{ErrorKind, Read, Seek, SeekFrom, Write};
 use std::rt::Files;
 use std::{fs, io};
 
@@ -24,16 +25,18 @@ const MOST_KEPT: usize = 4 * 1024 * 1024;
 /// - A text that isn't a path names no file: a read gives `None`, and a removal is `Ok`.
 /// - A folder or a file that the system doesn't give is a fault, and so is a folder where a file is read. Where the
 ///   system refuses memory, `list` and `read` answer `NoMemory`, which raises no count.
-/// - A write makes the folders that it needs. `sync` syncs each file that was written and each folder in which one
-///   was written or removed since the last sync that succeeded.
+/// - A write puts the new bytes in the place of the old ones, and makes the folders that it needs. It takes no memory:
+///   `reserve` has made the room that it needs.
+/// - `sync` syncs each file that was written and each folder in which one was written or removed since the last sync
+///   that succeeded. Files stay open until then, 64 at most: a write beyond that syncs them first.
 #[derive(Drop)]
 pub struct FolderStore<R: Files> {
     rt: R,
     alloc: Global,
-    root: String,
+    full: FullPath,
     // What a read puts the bytes into before it knows how many there are.
     buffer: Vec<u8>,
-    unsynced: Unsynced,
+    unsynced: Unsynced<R>,
     read_faults: u64,
     write_faults: u64,
 }
@@ -44,13 +47,13 @@ impl<R: Files> FolderStore<R> {
     where
         R: Drop,
     {
-        let root = String::from_str(alloc, if root.is_empty() { "." } else { root })?;
+        let root = if root.is_empty() { "." } else { root };
         Ok(FolderStore {
             rt,
             alloc,
-            root,
+            full: FullPath::new(alloc, root)?,
             buffer: Vec::new(alloc),
-            unsynced: Unsynced::new(alloc),
+            unsynced: Unsynced::new(alloc)?,
             read_faults: 0,
             write_faults: 0,
         })
@@ -127,60 +130,64 @@ fn read_file<R: Files>(
     Ok(Some(bytes))
 }
 
-// Writes the whole file, and makes the folders that it needs. It is noted before it is touched, so that a file that is
-// written in part is synced too.
-fn write_file<R: Files>(
-    rt: &R,
-    unsynced: &mut Unsynced,
-    root: &str,
-    full: &str,
-    bytes: &[u8],
-) -> io::Result<()> {
-    unsynced.note_file(full)?;
-    let mut file = match File::create(rt, full) {
-        Err(e) if e.kind() == ErrorKind::NotFound => {
-            unsynced.note_folders_above(root, full)?;
-            if let Some((folder, _)) = full.rsplit_once('/') {
-                fs::create_dir_all(rt, folder)?;
-            }
-            File::create(rt, full)?
-        }
-        made => made?,
-    };
-    file.write_all(bytes)
+// Opens a file for writing, makes it where it is missing, and the folders that it needs. Tells whether it has made any
+// of those.
+fn open_to_write<R: Files>(rt: &R, full: &str) -> io::Result<(R::File, bool)> {
+    match OpenOptions::new().write(true).open(rt, full) {
+        Err(e) if e.kind() == ErrorKind::NotFound => {}
+        opened => return Ok((opened?, false)),
+    }
+    match File::create(rt, full) {
+        Err(e) if e.kind() == ErrorKind::NotFound => {}
+        made => return Ok((made?, false)),
+    }
+    fs::create_dir_all(rt, folder_of(full))?;
+    Ok((File::create(rt, full)?, true))
 }
 
-fn remove_file<R: Files>(rt: &R, unsynced: &mut Unsynced, full: &str) -> io::Result<()> {
-    unsynced.note_folder_of(full)?;
-    match fs::remove_file(rt, full) {
-        Err(e) if is_absent(&e) => Ok(()),
-        done => done,
+// Puts these bytes in the place of a file's own.
+fn overwrite<F: Write + Seek + OpenFile>(file: &mut F, bytes: &[u8]) -> io::Result<()> {
+    file.write_all(bytes)?;
+    let len = bytes.len() as u64;
+    if file.seek(SeekFrom::End(0))? > len {
+        file.set_len(len)?;
     }
+    Ok(())
 }
 
 impl<R: Files> FolderStore<R> {
-    fn try_write(&mut self, path: &str, bytes: &[u8]) -> io::Result<()>
+    // A file that is written in part is noted too.
+    fn try_write(&mut self, path: PathText, bytes: &[u8]) -> io::Result<()>
+        ensures room { vec_capacity self.old.unsynced.written - vec_len self.old.unsynced.written ≤ vec_capacity self.new.unsynced.written - vec_len self.new.unsynced.written + 1 }
         ensures reads { self.new.read_faults ≡ self.old.read_faults }
         ensures writes { self.new.write_faults ≡ self.old.write_faults }
     {
-        let root = self.root.as_str();
-        let full = joined(self.alloc, root, path)?;
-        write_file(&self.rt, &mut self.unsynced, root, full.as_str(), bytes)
+        self.unsynced.before_write()?;
+        let (mut file, made) = open_to_write(&self.rt, self.full.of(path.as_str())?)?;
+        let done = overwrite(&mut file, bytes);
+        self.unsynced.note_file(file, path, made)?;
+        done
     }
 
     fn try_remove(&mut self, path: &str) -> io::Result<()>
+        ensures room { self.new.unsynced.written ≡ self.old.unsynced.written }
         ensures reads { self.new.read_faults ≡ self.old.read_faults }
         ensures writes { self.new.write_faults ≡ self.old.write_faults }
     {
         if !is_path(path) {
             return Ok(());
         }
-        let full = joined(self.alloc, self.root.as_str(), path)?;
-        remove_file(&self.rt, &mut self.unsynced, full.as_str())
+        let full = self.full.of(path)?;
+        self.unsynced.note_removal(&self.rt, full)?;
+        match fs::remove_file(&self.rt, full) {
+            Err(e) if is_absent(&e) => Ok(()),
+            done => done,
+        }
     }
 
     // Counts a call that failed.
     fn counted(&mut self, done: io::Result<()>) -> Result<(), Failed>
+        ensures room { self.new.unsynced ≡ self.old.unsynced }
         ensures reads { self.new.read_faults ≡ self.old.read_faults }
         ensures rose { OnErr result (Rose self.old.write_faults self.new.write_faults) }
         ensures count { self.old.write_faults ≤ self.new.write_faults }
@@ -200,14 +207,14 @@ impl<R: Files + AllocGlobal + Clone + Drop> Store for FolderStore<R> {
 
     ghost files = { λ _. map.empty };
 
-    ghost spare = { λ _. 2 ^ 64 };
+    ghost spare = { λ s. vec_capacity s.unsynced.written - vec_len s.unsynced.written };
 
     ghost read_faults = { λ s. s.read_faults };
 
     ghost write_faults = { λ s. s.write_faults };
 
     fn list(&mut self, alloc: Global, most: u32) -> Result<Vec<PathText>, StoreFault> {
-        let listed = listed(&self.rt, alloc, self.root.as_str(), most);
+        let listed = listed(&self.rt, alloc, self.full.root(), most);
         if let Err(StoreFault::Failed) = &listed {
             self.read_faults = self.read_faults.saturating_add(1);
         }
@@ -223,8 +230,10 @@ impl<R: Files + AllocGlobal + Clone + Drop> Store for FolderStore<R> {
         if !is_path(path) {
             return Ok(None);
         }
-        let full = joined(alloc, self.root.as_str(), path)?;
-        let found = read_file(&self.rt, alloc, &mut self.buffer, full.as_str(), most);
+        let found = match self.full.of(path) {
+            Ok(full) => read_file(&self.rt, alloc, &mut self.buffer, full, most),
+            Err(e) => Err(e),
+        };
         if self.buffer.len() > MOST_KEPT {
             self.buffer = Vec::new(self.alloc);
         }
@@ -240,12 +249,13 @@ impl<R: Files + AllocGlobal + Clone + Drop> Store for FolderStore<R> {
         }
     }
 
-    fn reserve(&mut self, _paths: u32) -> Result<(), StoreFault> {
+    fn reserve(&mut self, paths: u32) -> Result<(), StoreFault> {
+        self.unsynced.reserve(paths)?;
         Ok(())
     }
 
     fn write(&mut self, path: PathText, bytes: Vec<u8>) -> Result<(), Failed> {
-        let done = self.try_write(path.as_str(), &bytes);
+        let done = self.try_write(path, &bytes);
         self.counted(done)
     }
 
@@ -255,7 +265,7 @@ impl<R: Files + AllocGlobal + Clone + Drop> Store for FolderStore<R> {
     }
 
     fn sync(&mut self) -> Result<(), Failed> {
-        let done = self.unsynced.sync(&self.rt);
+        let done = self.unsynced.sync(&self.rt, &mut self.full);
         self.counted(done)
     }
 }

@@ -4,6 +4,7 @@
 mod fault;
 mod file;
 mod folder;
+mod full;
 mod gate;
 mod listing;
 mod memory;

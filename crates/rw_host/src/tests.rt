@@ -94,7 +94,12 @@ fn text_at<S: Store>(
 // Writes, reads and removes in a store without files.
 fn keeps_files<R: Abort, S: Store>(rt: &R, alloc: Global, store: &mut S) -> Result<(), Fail> {
     assert_eq!(rt; names(alloc, store)?.as_str(), "");
-    for (name, text) in [("b/y", "why"), ("a", "x"), ("b/c/z", ""), ("a", "one")] {
+    for (name, text) in [
+        ("b/y", "why"),
+        ("a", "a longer text"),
+        ("b/c/z", ""),
+        ("a", "one"),
+    ] {
         put(alloc, store, name, text)?;
     }
     assert_eq!(rt; names(alloc, store)?.as_str(), "a b/c/z b/y ");
@@ -236,6 +241,26 @@ fn folder_store_keeps_files(rt: HostRuntime) -> Result<(), Fail> {
 }
 
 #[test]
+fn folder_store_writes_more_files_than_stay_open(rt: HostRuntime) -> Result<(), Fail> {
+    let alloc = rt.alloc();
+    let folder = new_folder(&rt, "many")?;
+    let mut store = FolderStore::new(rt.clone()?, alloc, folder.as_str())?;
+    for k in 0..150 {
+        let name = format!(in alloc; "{}/{k}", k % 3)?;
+        put(alloc, &mut store, name.as_str(), "text")?;
+    }
+    store.sync()?;
+    assert_eq!(rt; store.list(alloc, 200)?.len(), 150);
+    for name in ["0/0", "1/1", "1/4", "gone/0"] {
+        store.remove(name)?;
+    }
+    store.sync()?;
+    assert_eq!(rt; store.list(alloc, 200)?.len(), 147);
+    fs::remove_dir_all(&rt, folder.as_str())?;
+    Ok(())
+}
+
+#[test]
 fn folder_store_passes_over_what_is_no_file(rt: HostRuntime) -> Result<(), Fail> {
     let alloc = rt.alloc();
     let folder = new_folder(&rt, "skips")?;
@@ -258,6 +283,7 @@ fn folder_store_passes_over_what_is_no_file(rt: HostRuntime) -> Result<(), Fail>
     );
     assert!(rt; matches!(store.read(alloc, "b", 9), Err(StoreFault::Failed)));
     assert!(rt; matches!(store.read(alloc, "b", 0), Err(StoreFault::Failed)));
+    store.reserve(1)?;
     let below_a_file = store.write(path(alloc, "a/b")?, Vec::new(alloc));
     assert!(rt; below_a_file.is_err());
     fs::remove_dir_all(&rt, folder.as_str())?;

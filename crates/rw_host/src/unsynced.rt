@@ -1,80 +1,159 @@
 // What has changed in a real folder since the last sync.
+ghost use Rattle.std.specs.Prelude.{◌≡◌, ◌+◌, ◌-◌, ◌≤◌, vec_len, vec_capacity, OnOk};
+
+use crate::PathText;
+use crate::full::{FullPath, MOST_PATH, folder_of};
 use std::alloc::{AllocError, Global};
 use std::fs::{File, OpenFile};
 use std::io;
 use std::io::ErrorKind;
 use std::rt::Files;
 
-// The files that were written, and the folders in which a name came or went, by their full paths.
+// How many files stay open at most until they are synced.
+const MOST_OPEN: usize = 64;
+
+// A file that was written, and whether folders were made for it.
 #[derive(Drop)]
-pub(crate) struct Unsynced {
-    alloc: Global,
-    files: Vec<String>,
-    folders: Vec<String>,
+struct Written {
+    path: PathText,
+    made: bool,
 }
 
-impl Unsynced {
-    pub(crate) fn new(alloc: Global) -> Unsynced {
-        Unsynced {
-            alloc,
+// The files that were written, and the folders in which a name came or went.
+#[derive(Drop)]
+pub(crate) struct Unsynced<R: Files> {
+    // The files that were written last, by the handles that wrote them. Those before them are synced.
+    files: Vec<R::File>,
+    // Files that were written, at least one in each folder.
+    written: Vec<Written>,
+    // The full path of the folder in which a file was removed last. Those before it are synced.
+    removed: String,
+}
+
+impl<R: Files> Unsynced<R> {
+    pub(crate) fn new(alloc: Global) -> Result<Unsynced<R>, AllocError> {
+        Ok(Unsynced {
             files: Vec::new(alloc),
-            folders: Vec::new(alloc),
-        }
+            written: Vec::new(alloc),
+            removed: String::with_capacity(alloc, MOST_PATH)?,
+        })
     }
 
-    // Notes that the file with this full path is written, and so the folder that holds it.
-    pub(crate) fn note_file(&mut self, full: &str) -> Result<(), AllocError> {
-        self.note_folder_of(full)?;
-        self.files.push(String::from_str(self.alloc, full)?)?;
+    // Makes room for this many writes.
+    pub(crate) fn reserve(&mut self, writes: u32) -> Result<(), AllocError>
+        ensures room { OnOk result (writes ≤ vec_capacity self.new.written - vec_len self.new.written) }
+        ensures kept { vec_capacity self.old.written - vec_len self.old.written ≤ vec_capacity self.new.written - vec_len self.new.written }
+    {
+        let open = MOST_OPEN.saturating_sub(self.files.len());
+        self.files.reserve(open)?;
+        self.written.reserve(writes as usize)
+    }
+
+    // Syncs the files that are open, where there are as many as may be.
+    pub(crate) fn before_write(&mut self) -> io::Result<()>
+        ensures { self.new.written ≡ self.old.written }
+    {
+        if self.files.len() >= MOST_OPEN {
+            self.sync_files()?;
+        }
         Ok(())
     }
 
-    // Notes the folder that holds what has this full path. Most follow one with the same folder.
-    pub(crate) fn note_folder_of(&mut self, full: &str) -> Result<(), AllocError> {
-        let Some((folder, _)) = full.rsplit_once('/') else {
-            return Ok(());
-        };
-        if let Some(last) = self.folders.last() {
-            if last.as_str() == folder {
+    // Notes that the file with this path was written by this handle.
+    pub(crate) fn note_file(
+        &mut self,
+        file: R::File,
+        path: PathText,
+        made: bool,
+    ) -> Result<(), AllocError>
+        ensures { vec_capacity self.old.written - vec_len self.old.written ≤ vec_capacity self.new.written - vec_len self.new.written + 1 }
+    {
+        self.files.push(file)?;
+        if let Some(last) = self.written.last() {
+            if !made && folder_of(last.path.as_str()) == folder_of(path.as_str()) {
                 return Ok(());
             }
         }
-        self.folders.push(String::from_str(self.alloc, folder)?)?;
+        self.written.push(Written { path, made })?;
         Ok(())
     }
 
-    // Notes each folder above what has this full path, up to the root.
-    pub(crate) fn note_folders_above(&mut self, root: &str, full: &str) -> Result<(), AllocError> {
-        for (at, _) in full.match_indices('/') {
-            if at > root.len() {
-                self.note_folder_of(&full[..at])?;
-            }
+    // Notes that what has this full path is removed.
+    pub(crate) fn note_removal(&mut self, rt: &R, full: &str) -> io::Result<()>
+        ensures { self.new.written ≡ self.old.written }
+    {
+        let folder = folder_of(full);
+        if self.removed.as_str() != folder {
+            self.sync_removed(rt)?;
+            self.removed.push_str(folder)?;
         }
         Ok(())
     }
 
-    // Syncs each file and each folder once, and forgets them where none fails.
-    pub(crate) fn sync<R: Files>(&mut self, rt: &R) -> io::Result<()> {
-        sync_each(rt, &mut self.files)?;
-        sync_each(rt, &mut self.folders)?;
+    // Syncs each file and each folder, and forgets them where none fails.
+    pub(crate) fn sync(&mut self, rt: &R, full: &mut FullPath) -> io::Result<()>
+        ensures { vec_capacity self.old.written - vec_len self.old.written ≤ vec_capacity self.new.written - vec_len self.new.written }
+    {
+        self.sync_files()?;
+        self.sync_removed(rt)?;
+        self.sync_folders(rt, full)?;
+        self.written.clear();
+        Ok(())
+    }
+
+    fn sync_files(&mut self) -> io::Result<()>
+        ensures { self.new.written ≡ self.old.written }
+    {
+        for file in &self.files {
+            file.sync_data()?;
+        }
         self.files.clear();
-        self.folders.clear();
+        Ok(())
+    }
+
+    fn sync_removed(&mut self, rt: &R) -> io::Result<()>
+        ensures { self.new.written ≡ self.old.written }
+    {
+        if !self.removed.is_empty() {
+            sync_folder(rt, self.removed.as_str())?;
+            self.removed.clear();
+        }
+        Ok(())
+    }
+
+    // Syncs each folder in which a file was written once, and those above it where folders were made.
+    fn sync_folders(&mut self, rt: &R, full: &mut FullPath) -> io::Result<()>
+        ensures { vec_capacity self.old.written - vec_len self.old.written ≤ vec_capacity self.new.written - vec_len self.new.written }
+    {
+        self.written.sort_unstable_by(|one, other| {
+            folder_of(one.path.as_str()).cmp(folder_of(other.path.as_str()))
+        });
+        let mut last = None;
+        for written in &self.written {
+            let folder = folder_of(written.path.as_str());
+            if last != Some(folder) {
+                sync_folder(rt, full.of(folder)?)?;
+                last = Some(folder);
+            }
+            if written.made {
+                sync_above(rt, full, folder)?;
+            }
+        }
         Ok(())
     }
 }
 
-fn sync_each<R: Files>(rt: &R, paths: &mut Vec<String>) -> io::Result<()> {
-    paths.sort_unstable();
-    paths.dedup();
-    for path in &*paths {
-        sync_one(rt, path.as_str())?;
+// Syncs each folder above this one, up to the root.
+fn sync_above<R: Files>(rt: &R, full: &mut FullPath, folder: &str) -> io::Result<()> {
+    for (at, _) in folder.match_indices('/') {
+        sync_folder(rt, full.of(&folder[..at])?)?;
     }
-    Ok(())
+    sync_folder(rt, full.root())
 }
 
 // What is gone needs no sync.
-fn sync_one<R: Files>(rt: &R, path: &str) -> io::Result<()> {
-    match File::open(rt, path) {
+fn sync_folder<R: Files>(rt: &R, full: &str) -> io::Result<()> {
+    match File::open(rt, full) {
         Ok(file) => file.sync_all(),
         Err(e) if e.kind() == ErrorKind::NotFound => Ok(()),
         Err(e) => Err(e),

@@ -1,4 +1,5 @@
 use Rattle.std.proofs.Common.{◌≡◌, ◌<◌, ◌++◌, ◌∷◌, [], length, get_or, sym, ap, subst, ◌∙◌, arith}
+use Rattle.rw_base.specs.Laws.{leaf_edits_are_edits}
 use Rattle.rw_base.specs.NewText.{AreLeafEdits}
 use Rattle.std.specs.Str.{bytes_eq}
 use Rattle.properties_tree.specs.Decoding.{key_text}
@@ -38,3 +39,11 @@ returns-clause-leaves c =
     let all = ended c.args.options.now.old_property_key c.args.options.now.new_property_key es c.loop-n.n c.loop-n.edits.items (edits_of c.args.bytes.now c.args.options.now) (omega (arith, c.entry_count-n-end.ensures.count)) c.loop-n.invariant in
     subst (AreLeafEdits (length c.args.tree.now.leaves)) (sym all)
     (are_leaf_edits c.args.options.now.old_property_key c.args.options.now.new_property_key (length c.args.tree.now.leaves) 0 es (omega (arith, c.entry_count-n-end.ensures.leaves, c.entry_count-n-end.ensures.count)))
+
+pub returns-clause-fit : goal.returns-clause-fit
+returns-clause-fit c =
+    let es = (properties_of c.args.bytes.now).entries in
+    let all = ended c.args.options.now.old_property_key c.args.options.now.new_property_key es c.loop-n.n c.loop-n.edits.items (edits_of c.args.bytes.now c.args.options.now) (omega (arith, c.entry_count-n-end.ensures.count)) c.loop-n.invariant in
+    leaf_edits_are_edits c.args.tree.now c.loop-n.edits.items
+    (subst (AreLeafEdits (length c.args.tree.now.leaves)) (sym all)
+    (are_leaf_edits c.args.options.now.old_property_key c.args.options.now.new_property_key (length c.args.tree.now.leaves) 0 es (omega (arith, c.entry_count-n-end.ensures.leaves, c.entry_count-n-end.ensures.count))))

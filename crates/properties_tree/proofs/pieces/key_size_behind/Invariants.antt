@@ -1,7 +1,6 @@
 use Rattle.std.proofs.Common.{◌≡◌, ◌-◌, ◌≤◌, length, drop}
-use Rattle.properties_tree.specs.Cutting.{key_size, pieces_in}
-use Rattle.properties_tree.proofs.Loops.{key_end}
-use Rattle.properties_tree.proofs.pieces.key_size.Given as goal
+use Rattle.properties_tree.specs.Cutting.{key_size, key_end, pieces_in}
+use Rattle.properties_tree.proofs.pieces.key_size_behind.Given as goal
 
 abbrev pub invariant-loop-at : goal.invariant-loop-at
 invariant-loop-at l = record {
