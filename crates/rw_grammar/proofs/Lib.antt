@@ -1,0 +1,15 @@
+pub mod Unique
+pub mod Steps
+pub mod Runs
+pub mod CellLaws
+pub mod Told
+pub mod Acting
+pub mod Leaves
+pub mod Laying
+pub mod FaultLaws
+pub mod MadeTrees
+pub mod DepthLaws
+pub mod ClosedLaws
+pub mod TestLeaves
+pub mod CodeLaws
+pub mod Spelling

@@ -1,0 +1,15 @@
+pub mod Parts
+pub mod PartsCode
+pub mod Shapes
+pub mod Codes
+pub mod Words
+pub mod Begins
+pub mod Derivation
+pub mod Viability
+pub mod Faults
+pub mod Closed
+pub mod Laws
+pub mod Cells
+pub mod Machine
+pub mod Depth
+pub mod Results

@@ -1,0 +1,20 @@
+// Laws of tables and derivations: functions that do nothing, whose clauses hold of every table and list of leaves.
+ghost use Rattle.rw_grammar.specs.Closed.{ClosedIsSound};
+ghost use Rattle.rw_grammar.specs.Laws.{OneSpelling, OneTree, SpelledAreRead};
+
+/// By a table without a fault a rule derives one tree from a list of leaves.
+pub fn a_rule_derives_one_tree()
+    ensures { OneTree }
+{}
+
+/// First classes, emptiness and a rank, written out for each rule, show that a table has no fault, where they are
+/// closed under the rules: a test that computes.
+pub fn closed_rows_show_a_sound_table()
+    ensures { ClosedIsSound }
+{}
+
+/// Codes spell one list of rules at most, and `shapes` takes the codes that spell one.
+pub fn codes_spell_one_list_of_rules()
+    ensures one { OneSpelling }
+    ensures read { SpelledAreRead }
+{}

@@ -1,0 +1,24 @@
+//! A grammar engine: tables of shapes, and the tree of the one greedy derivation of a list of leaves.
+#![tactic(auto)]
+
+mod cells;
+mod codes;
+mod depth;
+mod faults;
+mod greedy;
+mod known;
+mod laws;
+mod machine;
+mod shape;
+mod table;
+
+pub use codes::shapes;
+pub use greedy::{DeriveFault, derive};
+pub use laws::{
+    a_rule_derives_one_tree, closed_rows_show_a_sound_table, codes_spell_one_list_of_rules,
+};
+pub use shape::Shape;
+pub use table::{Table, TableFault};
+
+#[cfg(test)]
+mod tests;
