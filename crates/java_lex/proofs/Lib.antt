@@ -1,0 +1,14 @@
+pub mod Derivatives
+pub mod Following
+pub mod States
+pub mod Runs
+pub mod Best
+pub mod Escaping
+pub mod Wording
+pub mod Letters
+pub mod Pieces
+pub mod Cutting
+pub mod Tiling
+pub mod Steps
+pub mod Alike
+pub mod Moving

@@ -1,0 +1,11 @@
+pub mod Expressions
+pub mod Numbers
+pub mod Literals
+pub mod Signs
+pub mod Words
+pub mod Kinds
+pub mod Escapes
+pub mod Blanks
+pub mod Leaves
+pub mod Scanning
+pub mod Laws
