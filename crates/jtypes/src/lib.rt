@@ -10,6 +10,7 @@ mod groups;
 mod laws;
 mod list_world;
 mod name;
+mod name_set;
 mod primitives;
 mod promotion;
 mod signatures;

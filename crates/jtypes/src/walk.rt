@@ -9,46 +9,29 @@ use crate::ask::Ask;
 use crate::asking::Asks;
 use crate::classes::Classes;
 use crate::name::Name;
+use crate::name_set::NameSet;
 use rw_base::Mem;
-use sqlite_items::Items;
 use std::alloc::Global;
 
-fn has(names: &[Name], name: &Name) -> bool
-    ensures { IsTrue result ↔ In name.now names.now }
-{
-    for other in names {
-        if name.is(other) {
-            return true;
-        }
-    }
-    false
-}
-
 /// Puts those names that are not there yet.
-fn add_new(alloc: Global, seen: &mut Items<Name>, names: &[Name]) -> Mem<()>
+fn add_new(alloc: Global, seen: &mut NameSet, names: &[Name]) -> Mem<()>
     ensures { OnOk result (Grown names.now seen.old seen.new) }
 {
     for name in names {
-        if !has(seen.as_slice(), name) {
-            seen.push(name.copy(alloc)?)?;
+        if !seen.has(name) {
+            seen.put(name.copy(alloc)?)?;
         }
     }
     Ok(())
 }
 
 /// Puts the supertypes of the classes from one place to before another.
-fn expand<C: Classes>(
-    alloc: Global,
-    seen: &mut Items<Name>,
-    from: usize,
-    past: usize,
-    c: &C,
-) -> Mem<()>
+fn expand<C: Classes>(alloc: Global, seen: &mut NameSet, from: usize, past: usize, c: &C) -> Mem<()>
     requires { past ≤ length seen.old }
     ensures { OnOk result (Expanded (C.world c.now) from past seen.old seen.new) }
 {
     for i in from..past {
-        if let Some(header) = c.class(&seen.as_slice()[i]) {
+        if let Some(header) = c.class(seen.at(i)) {
             add_new(alloc, seen, header.supertypes.as_slice())?;
         }
     }
@@ -57,12 +40,12 @@ fn expand<C: Classes>(
 
 /// The classes reached by at most so many supertypes in a row, each once. A class is looked up
 /// once at most.
-fn reach<C: Classes>(alloc: Global, name: &Name, most: u32, c: &C) -> Mem<Items<Name>>
+fn reach<C: Classes>(alloc: Global, name: &Name, most: u32, c: &C) -> Mem<NameSet>
     ensures reached { IfOk result (λ names. (b : List ℕ) → In b names ↔ Reaches (C.world c.now) most name.now b) }
     ensures once { IfOk result IsOnce }
 {
-    let mut seen = Items::new(alloc);
-    seen.push(name.copy(alloc)?)?;
+    let mut seen = NameSet::new(alloc);
+    seen.put(name.copy(alloc)?)?;
     let mut from = 0;
     for _level in 0..most {
         let past = seen.len();
@@ -70,15 +53,6 @@ fn reach<C: Classes>(alloc: Global, name: &Name, most: u32, c: &C) -> Mem<Items<
         from = past;
     }
     Ok(seen)
-}
-
-fn put_classes(alloc: Global, names: &[Name], asks: &mut Asks) -> Mem<()>
-    ensures { OnOk result (Heard asks.old (map Ask.Class names.now) asks.new) }
-{
-    for name in names {
-        asks.put(Ask::Class(name.copy(alloc)?))?;
-    }
-    Ok(())
 }
 
 /// How many supertypes in a row count.
@@ -112,6 +86,7 @@ pub(crate) fn is_class_subtype<C: Classes>(
         return Ok(true);
     }
     let names = reach(alloc, a, longest_row(), c)?;
-    put_classes(alloc, names.as_slice(), asks)?;
-    Ok(has(names.as_slice(), b))
+    let found = names.has(b);
+    names.ask_classes(alloc, asks)?;
+    Ok(found)
 }

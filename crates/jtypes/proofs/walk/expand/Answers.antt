@@ -1,5 +1,4 @@
-use Rattle.std.proofs.Common.{◌≡◌, ◌∙◌, sym, ap, refl, Some, length, [], List, ℕ, ◌<◌, ◌≤◌, get_or, add-one, arith, slice_get, length-append}
-use Rattle.std.proofs.lemmas.Option.{slice_get_read}
+use Rattle.std.proofs.Common.{◌≡◌, ◌∙◌, sym, ap, Some, length, [], List, ℕ, ◌<◌, ◌≤◌, add-one, arith, slice_get}
 use Rattle.jtypes.specs.World.{World}
 use Rattle.jtypes.specs.Subtype.{supertypes, supertypes_in}
 use Rattle.jtypes.specs.Grown.{Expanded}
@@ -14,15 +13,13 @@ old_place w from i past old seen a e lt le is = sym (get_front old e.extra i (om
 pub loop-i-preserved : goal.loop-i-preserved
 loop-i-preserved g c =
     let w = g.C.Classes.world c.args.c.now in
-    let a = c.index-as_slice-i.result in
+    let a = c.at.result.now in
     let i = c.loop-i.i in
     let old = c.args.seen.now in
-    let lt : i < length c.loop-i.seen = rw (ap length c.loop-i.invariant.grown, length-append) (omega (arith, c.loop-i-test.true, c.requires)) in
-    let is : a ≡ get_or c.loop-i.seen i a = rw c.as_slice.ensures at c.index-as_slice-i.is in
-    let here : slice_get old i ≡ Some a = old_place w c.args.from i c.args.past old c.loop-i.seen a c.loop-i.invariant c.loop-i-test.true c.requires (slice_get_read c.loop-i.seen (length c.loop-i.seen) i a refl lt is) in
+    let here : slice_get old i ≡ Some a = old_place w c.args.from i c.args.past old c.loop-i.seen a c.loop-i.invariant c.loop-i-test.true c.requires c.at.ensures in
     elim c.match-class.branch [
       | in-Some+in_ok-add_new d ↦
-          let s : supertypes w a ≡ d.as_slice-in-Some.result.now = sym (ap supertypes_in d.in-Some.ensures) ∙ sym d.as_slice-in-Some.ensures in
+          let s : supertypes w a ≡ d.as_slice.result.now = sym (ap supertypes_in d.in-Some.ensures) ∙ sym d.as_slice.ensures in
           rw (add-one, d.seen-is) (expanded_more w c.args.from i old c.loop-i.seen d.add_new.new.seen a c.loop-i.invariant here (rw s d.in_ok-add_new.ensures))
       | in_default d ↦
           let s : supertypes w a ≡ [] = sym (ap supertypes_in d.in_default.ensures) in

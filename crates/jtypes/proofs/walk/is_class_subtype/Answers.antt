@@ -14,9 +14,9 @@ returns-then-is_object g c = told_object c.args.a.now c.args.b.now _ c.args.asks
 pub returns : goal.returns
 returns g c =
     let w = g.C.Classes.world c.args.c.now in
-    told_walk c.args.a.now c.args.b.now w c.args.asks.now c.put_classes.new.asks c.in_ok-names.names c.has.result
+    told_walk c.args.a.now c.args.b.now w c.args.asks.now c.ask_classes.new.asks c.in_ok-names.names c.has-found.result
     (λ e. true_false (sym (c.is.ensures.1 e) ∙ c.if-is.false))
     (λ e. true_false (sym (c.is_object.ensures.1 e) ∙ c.if-is_object.false))
     (subst (λ n. (b : List ℕ) → In b c.in_ok-names.names ↔ Reaches w n c.args.a.now b) c.longest_row.ensures c.in_ok-names.ensures.reached)
-    (rw c.as_slice.ensures at c.in_ok-put_classes.ensures)
-    (rw c.as_slice-2.ensures at c.has.ensures)
+    c.in_ok-ask_classes.ensures
+    c.has-found.ensures

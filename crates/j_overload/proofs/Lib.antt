@@ -1,0 +1,11 @@
+pub mod Testing
+pub mod TypeLists
+pub mod FitTests
+pub mod Picks
+pub mod Applying
+pub mod Equals
+pub mod Deciding
+pub mod Fitting
+pub mod Members
+pub mod Phases
+pub mod Decided

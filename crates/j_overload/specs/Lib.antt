@@ -1,0 +1,5 @@
+pub mod Tests
+pub mod Parameters
+pub mod Rules
+pub mod Choices
+pub mod Picked
