@@ -5,7 +5,7 @@ use Rattle.rw_base.specs.NewText.{new_text}
 use Rattle.rw_base.specs.declared.edit.Edit.{Edit}
 use Rattle.rw_base.specs.declared.edit.Item.TheVariants as item
 use Rattle.rw_base.specs.declared.edit.Spot.TheVariants as spot
-use Rattle.properties_tree.specs.declared.reader.TheConstants.{MOST_BYTES}
+use Rattle.rw_base.specs.declared.leaves.TheConstants.{MOST_BYTES}
 use Rattle.properties_tree.specs.declared.option.PropertiesChangePropertyKey.{PropertiesChangePropertyKey}
 use Rattle.properties_tree.specs.Decoding.{key_text}
 use Rattle.properties_tree.specs.Entries.{Entry, properties_of}

@@ -6,10 +6,8 @@ ghost use Rattle.properties_tree.specs.Keys.{IsKeyPlace, with_key};
 ghost use Rattle.properties_tree.specs.Layout.{tree_of};
 ghost use Rattle.conf_recipes.specs.PropertiesEdits.{edits_of, EditsWriteKeys};
 
-use properties_tree::{
-    KeyPlace, MOST_BYTES, PropertiesChangePropertyKey, next_with_key, spell_key,
-};
-use rw_base::Mem;
+use properties_tree::{KeyPlace, PropertiesChangePropertyKey, next_with_key, spell_key};
+use rw_base::{MOST_BYTES, Mem};
 use std::alloc::Global;
 
 /// The new text of a properties file that isn't too large, with the edits of a renaming, is the file with the keys that

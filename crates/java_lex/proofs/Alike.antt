@@ -6,7 +6,7 @@ use Rattle.std.proofs.lemmas.List.{length-drop, length-take, length-take-le, tak
 use Rattle.std.specs.Char.{encode_utf8}
 use Rattle.std.specs.Str.{encode_utf8_all}
 use Rattle.std.proofs.lemmas.Str.{encode_ascii}
-use Rattle.java_lex.specs.Expressions.{Expression}
+use Rattle.rw_base.specs.Expressions.{Expression}
 use Rattle.java_lex.specs.Kinds.{IsLeaf, word, other, Fits, kinds}
 use Rattle.java_lex.specs.Words.{IsWord, AllGoOn, begins_word, goes_on}
 use Rattle.java_lex.specs.Blanks.{is_white, begins_comment, is_line_end, IsComment, line, block, IsLineComment, IsBlockComment}
@@ -14,7 +14,7 @@ use Rattle.java_lex.specs.Literals.{literal_refused, comment_refused}
 use Rattle.java_lex.specs.Escapes.{NoneRefused}
 use Rattle.java_lex.specs.Leaves.{IsLeafPlace, IsNextLeaf, IsBlank, white, comment, Cuts, passed, leaf, ended, stopped, end_leaf}
 use Rattle.rw_base.specs.declared.tree.Leaf.{Leaf}
-use Rattle.java_lex.specs.declared.leaves.Bad.{Bad}
+use Rattle.rw_base.specs.declared.leaves.Bad.{Bad}
 use Rattle.java_lex.proofs.Tiling.{blank-inside, next-some}
 use Rattle.java_lex.specs.Scanning.{known, next_state, state_class}
 use Rattle.java_lex.specs.Laws.{AreBytes, is_alone, BeginsWith, IsAloneAt}

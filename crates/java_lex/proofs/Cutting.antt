@@ -7,7 +7,7 @@ use Rattle.std.proofs.lemmas.Str.{utf8_valid_len_le}
 use Rattle.std.specs.Str.Lossy.{utf8_valid_len}
 use Rattle.rw_base.specs.declared.tree.Leaf.{Leaf}
 use Rattle.rw_base.specs.declared.place.Cause.{Cause}
-use Rattle.java_lex.specs.declared.leaves.Bad.{Bad}
+use Rattle.rw_base.specs.declared.leaves.Bad.{Bad}
 use Rattle.java_lex.specs.declared.class.TheConstants.{END}
 use Rattle.java_lex.specs.Blanks.{is_white}
 use Rattle.java_lex.specs.Leaves.{Cuts, passed, leaf, ended, stopped, IsBlank, white, IsNextLeaf, IsBad, end_leaf, AreLeaves, text_of, is_broken, mark_size}

@@ -1,6 +1,6 @@
 -- What can follow a byte in the texts of an expression (Brzozowski).
 use Rattle.std.proofs.Common.{ℕ, Bool, true, false, cond, ◌&&◌, ◌||◌, List, [], ◌∷◌, eqb, leb}
-use Rattle.java_lex.specs.Expressions.{Expression, nothing, empty, byte, ◌>>◌, ◌<|>◌, many}
+use Rattle.rw_base.specs.Expressions.{Expression, nothing, empty, byte, ◌>>◌, ◌<|>◌, many}
 
 -- the empty text is one of the expression
 abbrev pub has_empty : Expression → Bool

@@ -4,7 +4,7 @@ use Rattle.std.proofs.lemmas.Bool.{cases_lt}
 use Rattle.std.proofs.lemmas.Bool.Decides.{nat_tests}
 use Rattle.std.proofs.lemmas.List.{take_more, drop_more, take-append-drop, drop_all, take_rest}
 use Rattle.java_lex.specs.declared.automaton.Found.{Found}
-use Rattle.java_lex.specs.Expressions.{Expression, byte, Matches}
+use Rattle.rw_base.specs.Expressions.{Expression, byte, Matches}
 use Rattle.java_lex.specs.Literals.{literal_refused, comment_refused}
 use Rattle.java_lex.specs.Kinds.{Fits}
 use Rattle.java_lex.specs.Escapes.{backslashes, backslashes_from, IsRefusedAt, NoneRefused}

@@ -1,7 +1,7 @@
 -- `behind` gives what can follow a byte, and `has_empty` says whether the empty text is one.
 use Rattle.std.proofs.Common.{◌≡◌, ℕ, ◌≤◌, ◌⊎◌, inl, inr, Bool, true, false, cond, ◌&&◌, ◌||◌, List, [], ◌∷◌, ◌++◌, eqb, leb, refl, sym, ◌∙◌, ap, subst, arith}
 use Rattle.std.proofs.lemmas.Bool.Decides.{nat_tests}
-use Rattle.java_lex.specs.Expressions.{Expression, nothing, empty, byte, ◌>>◌, ◌<|>◌, many, Matches, Repeats, none, more}
+use Rattle.rw_base.specs.Expressions.{Expression, nothing, empty, byte, ◌>>◌, ◌<|>◌, many, Matches, Repeats, none, more}
 use Rattle.java_lex.proofs.Derivatives.{has_empty, same, then, either_short, either, behind}
 
 -- ---- the shorter forms

@@ -2,7 +2,7 @@
 use Rattle.std.proofs.Common.{◌≡◌, ℕ, ◌+◌, ◌-◌, ◌≤◌, Bool, List, [], ◌∷◌, ◌++◌, drop, Option, Some, sym, ◌∙◌, ap, subst, arith}
 use Rattle.std.proofs.lemmas.List.{drop-drop}
 use Rattle.rw_base.specs.declared.tree.Leaf.{Leaf}
-use Rattle.java_lex.specs.declared.leaves.Bad.{Bad}
+use Rattle.rw_base.specs.declared.leaves.Bad.{Bad}
 use Rattle.java_lex.specs.Leaves.{Cuts, passed, leaf, ended, stopped, end_leaf}
 use Rattle.java_lex.specs.Laws.{moved, bad_moved}
 use Rattle.java_lex.proofs.Steps.{leaf_record, bad_record}

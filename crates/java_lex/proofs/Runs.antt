@@ -3,7 +3,7 @@ use Rattle.std.proofs.Common.{◌≡◌, ℕ, suc, zero, ◌+◌, ◌<◌, ◌�
 use Rattle.std.proofs.lemmas.Bool.Decides.{nat_tests}
 use Rattle.std.proofs.lemmas.Bool.{cases_lt}
 use Rattle.java_lex.specs.declared.table.TheConstants.{COLUMN}
-use Rattle.java_lex.specs.Expressions.{Expression, nothing, empty, byte, ◌>>◌, ◌<|>◌, many, Matches}
+use Rattle.rw_base.specs.Expressions.{Expression, nothing, empty, byte, ◌>>◌, ◌<|>◌, many, Matches}
 use Rattle.java_lex.specs.Kinds.{Fits}
 use Rattle.java_lex.specs.Scanning.{next_state, state_class}
 use Rattle.java_lex.proofs.Derivatives.{has_empty, same, behind, kept, step, after, same_kinds}

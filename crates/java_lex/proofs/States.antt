@@ -1,7 +1,7 @@
 -- The automaton's table is right: each state stands for what can follow a text that leads to it.
 use Rattle.std.proofs.Common.{◌≡◌, ℕ, suc, zero, Bool, true, false, cond, not, ◌&&◌, ◌||◌, List, [], ◌∷◌, eqb, ltb, get_or, refl}
 use Rattle.java_lex.specs.declared.table.TheConstants.{COLUMN}
-use Rattle.java_lex.specs.Expressions.{Expression}
+use Rattle.rw_base.specs.Expressions.{Expression}
 use Rattle.java_lex.specs.Literals.{literal_refused, comment_refused}
 use Rattle.java_lex.specs.Kinds.{kinds}
 use Rattle.java_lex.specs.Scanning.{known, next_state, state_class}

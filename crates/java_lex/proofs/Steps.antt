@@ -7,8 +7,8 @@ use Rattle.std.proofs.Math.Seq.{take-length}
 use Rattle.rw_base.specs.declared.tree.Leaf.{Leaf}
 use Rattle.rw_base.specs.declared.place.Cause.{Cause}
 use Rattle.rw_base.specs.declared.place.Cause.TheVariants.{NotUtf8, BadLeaf}
-use Rattle.java_lex.specs.declared.leaves.Bad.{Bad}
-use Rattle.java_lex.specs.Expressions.{Expression}
+use Rattle.rw_base.specs.declared.leaves.Bad.{Bad}
+use Rattle.rw_base.specs.Expressions.{Expression}
 use Rattle.java_lex.specs.Literals.{literal_refused, comment_refused}
 use Rattle.java_lex.specs.Kinds.{IsLeaf, word, other, Fits, kinds, is_literal}
 use Rattle.java_lex.specs.Words.{IsWord}

@@ -9,7 +9,7 @@ use Rattle.rw_base.specs.declared.tree.Leaf.{Leaf}
 use Rattle.rw_base.specs.declared.place.Cause.{Cause}
 use Rattle.rw_base.specs.Arena.{Tile, end_from, leaf_at}
 use Rattle.java_lex.specs.declared.class.TheConstants.{END}
-use Rattle.java_lex.specs.declared.leaves.Bad.{Bad}
+use Rattle.rw_base.specs.declared.leaves.Bad.{Bad}
 use Rattle.java_lex.specs.Literals.{literal_refused, comment_refused}
 use Rattle.java_lex.specs.Kinds.{IsLeaf, word, other}
 use Rattle.java_lex.specs.Blanks.{IsComment, line, block, IsBlockComment}

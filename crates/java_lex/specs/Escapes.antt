@@ -1,6 +1,6 @@
 -- Where a text holds an escape that is refused.
 use Rattle.std.specs.Prelude.{◌≡◌, ℕ, ◌+◌, ◌<◌, ◌%◌, ◌==◌, List, [], ◌∷◌, take, drop, if◌then◌else◌}
-use Rattle.java_lex.specs.Expressions.{Expression, Matches}
+use Rattle.rw_base.specs.Expressions.{Expression, Matches}
 
 -- how many backslashes a text ends in, where so many stand directly before it
 abbrev pub backslashes_from : ℕ → List ℕ → ℕ

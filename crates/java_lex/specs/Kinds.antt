@@ -1,7 +1,7 @@
 -- The kinds of leaves, each with its class (JLS 3.5, 3.8 to 3.12).
 use Rattle.std.specs.Prelude.{◌≡◌, ℕ, ◌⊎◌, ◌==◌, ◌||◌, Bool, List, [], ◌∷◌}
 use Rattle.java_lex.specs.declared.class.TheConstants.{INT, LONG, FLOAT, DOUBLE, CHAR, STRING}
-use Rattle.java_lex.specs.Expressions.{Expression, Matches, text}
+use Rattle.rw_base.specs.Expressions.{Expression, Matches, text}
 use Rattle.java_lex.specs.Numbers.{integer, long, float, double}
 use Rattle.java_lex.specs.Literals.{char_literal, string_literal}
 use Rattle.java_lex.specs.Signs.{signs}

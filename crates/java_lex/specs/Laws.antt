@@ -3,7 +3,7 @@ use Rattle.std.specs.Prelude.{◌≡◌, ℕ, ◌+◌, ◌-◌, ◌<◌, ◌≤�
 use Rattle.rw_base.specs.declared.tree.Leaf.{Leaf}
 use Rattle.rw_base.specs.Arena.{Tile, end_from, leaf_at}
 use Rattle.java_lex.specs.declared.class.TheConstants.{END}
-use Rattle.java_lex.specs.declared.leaves.Bad.{Bad}
+use Rattle.rw_base.specs.declared.leaves.Bad.{Bad}
 
 -- the byte at which the leaves of a file end: the bad place, or the end of the file
 abbrev pub ends_at : List ℕ → Option Bad → ℕ

@@ -1,4 +1,3 @@
-pub mod Expressions
 pub mod Numbers
 pub mod Literals
 pub mod Signs

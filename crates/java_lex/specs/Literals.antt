@@ -1,6 +1,6 @@
 -- Character and string literals, and escapes (JLS 3.10.4, 3.10.5, 3.10.6, and 3.3 for escapes by `u`).
 use Rattle.std.specs.Prelude.{ℕ, ◌+◌, ◌-◌, codes}
-use Rattle.java_lex.specs.Expressions.{Expression, byte, ◌>>◌, ◌<|>◌, many, optional, text, one_of}
+use Rattle.rw_base.specs.Expressions.{Expression, byte, ◌>>◌, ◌<|>◌, many, optional, text, one_of}
 use Rattle.java_lex.specs.Numbers.{hex_digit}
 
 abbrev pub backslash : Expression

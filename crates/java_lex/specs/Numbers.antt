@@ -1,6 +1,6 @@
 -- Integer and floating-point literals (JLS 3.10.1, 3.10.2).
 use Rattle.std.specs.Prelude.{codes}
-use Rattle.java_lex.specs.Expressions.{Expression, byte, ◌>>◌, ◌<|>◌, many, optional, text, one_of}
+use Rattle.rw_base.specs.Expressions.{Expression, byte, ◌>>◌, ◌<|>◌, many, optional, text, one_of}
 
 -- digits of a kind, with any number of underscores between two of them
 abbrev pub separated : Expression → Expression

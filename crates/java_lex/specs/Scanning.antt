@@ -5,7 +5,7 @@ use Rattle.java_lex.specs.declared.piece.Piece.{Piece}
 use Rattle.java_lex.specs.declared.piece.Piece.TheVariants as piece
 use Rattle.java_lex.specs.declared.table.TheConstants.{LEAF, LITERAL_ESCAPE, COMMENT_ESCAPE, NEXT, COLUMN, CLASS}
 use Rattle.java_lex.specs.declared.slots.TheConstants.{LETTERS, LETTER_COUNT, WORD_CLASS}
-use Rattle.java_lex.specs.Expressions.{Expression}
+use Rattle.rw_base.specs.Expressions.{Expression}
 use Rattle.java_lex.specs.Literals.{literal_refused, comment_refused}
 use Rattle.java_lex.specs.Kinds.{kinds, Fits}
 use Rattle.java_lex.specs.Words.{IsWord, IsLetter}

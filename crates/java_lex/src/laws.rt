@@ -1,7 +1,7 @@
 // Laws of Java leaves.
 ghost use Rattle.std.specs.Prelude.{◌≡◌, ℕ, ◌+◌, ◌-◌, Bool, List, ◌∷◌, ◌++◌, take, drop, Option};
 ghost use Rattle.rw_base.specs.declared.tree.Leaf.{Leaf};
-ghost use Rattle.java_lex.specs.declared.leaves.Bad.{Bad};
+ghost use Rattle.rw_base.specs.declared.leaves.Bad.{Bad};
 ghost use Rattle.java_lex.specs.Leaves.{AreLeaves, Cuts};
 ghost use Rattle.java_lex.specs.Laws.{AreTiles, AreBytes, IsAloneAt, BeginsWith, moved, bad_moved};
 

@@ -7,25 +7,8 @@ use crate::blank::white_size;
 use crate::class::END;
 use crate::piece::{Piece, piece_of};
 use bstr::ByteSlice;
-use rw_base::{Cause, Leaf, Mem};
+use rw_base::{Bad, Leaf, Leaves, MOST_BYTES, Mem};
 use std::alloc::Global;
-
-/// The largest file that is cut into leaves, in bytes.
-pub const MOST_BYTES: usize = 2_097_152;
-
-/// The first byte of a file that is no part of a leaf or of what stands before one, and why.
-#[derive(Clone, Copy, Debug, PartialEq, Eq)]
-pub struct Bad {
-    pub byte: u32,
-    pub cause: Cause,
-}
-
-/// The leaves of a file up to its first bad place, and an end leaf there.
-#[derive(Debug, Drop)]
-pub struct Leaves {
-    pub leaves: Vec<Leaf>,
-    pub bad: Option<Bad>,
-}
 
 // The longest front of a file that is UTF-8.
 fn text_of(bytes: &[u8]) -> &[u8]

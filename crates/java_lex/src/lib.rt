@@ -15,4 +15,4 @@ mod tests;
 mod word;
 
 pub use laws::{cut_alike, cut_anywhere, cut_behind, leaves_are_one, leaves_tile};
-pub use leaves::{Bad, Leaves, MOST_BYTES, java_leaves};
+pub use leaves::java_leaves;

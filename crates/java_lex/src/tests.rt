@@ -2,8 +2,8 @@
 mod whole_class;
 
 use crate::class::*;
-use crate::{Bad, MOST_BYTES, java_leaves};
-use rw_base::Cause;
+use crate::java_leaves;
+use rw_base::{Bad, Cause, MOST_BYTES};
 use std::process::Abort;
 use std::test::Fail;
 

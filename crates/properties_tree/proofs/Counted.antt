@@ -2,7 +2,8 @@
 use Rattle.std.proofs.Common.{ℕ, ◌+◌, ◌≤◌, Bool, true, false, List, [], ◌∷◌, ◌++◌, length, inl, inr, arith}
 use Rattle.std.specs.Prelude.{◌==◌}
 use Rattle.std.proofs.lemmas.Bool.{cases_Bool}
-use Rattle.properties_tree.specs.Lines.{Line, lines_of, with_text, with_ending, begins_with_lf, is_passed_over, goes_on, whole_line}
+use Rattle.rw_base.specs.NaturalLines.{Line, lines_of, with_text, with_ending, begins_with_lf, whole_line}
+use Rattle.properties_tree.specs.Lines.{is_passed_over, goes_on}
 use Rattle.properties_tree.specs.Entries.{Logical, passed, entry, grouped, logical_lines, entries_of, properties_of}
 use Rattle.properties_tree.specs.Laws.{FilesHaveTrees, EntriesHaveFourLeaves}
 use Rattle.properties_tree.specs.Layout.{tree_of}

@@ -4,7 +4,8 @@ use Rattle.std.specs.Prelude.{◌==◌, ◌&&◌, not}
 use Rattle.std.proofs.lemmas.Bool.{cases_Bool, false≢true, eqb-true}
 use Rattle.std.proofs.lemmas.List.{take-append-drop, take_at, drop_at, length-take-le}
 use Rattle.properties_tree.specs.Characters.{is_line_end, is_blank, is_separator, ends_key, backslash}
-use Rattle.properties_tree.specs.Lines.{leading_blanks, unblanked, begins_with_lf}
+use Rattle.rw_base.specs.NaturalLines.{begins_with_lf}
+use Rattle.properties_tree.specs.Lines.{leading_blanks, unblanked}
 use Rattle.properties_tree.specs.Entries.{Piece, char, joint, raw, meant, through, key_length}
 use Rattle.properties_tree.proofs.Lengths.{unblanked_is, leading_is, blanks-le}
 use Rattle.properties_tree.specs.Cutting.{joins, joint_size, pieces_behind, pieces_in, key_front, separator_front, separator_from}

@@ -3,7 +3,8 @@ use Rattle.std.proofs.Common.{◌≡◌, ℕ, zero, suc, ◌+◌, ◌≤◌, tru
 use Rattle.std.proofs.lemmas.Bool.{cases_Bool}
 use Rattle.std.proofs.lemmas.List.{drop-drop, append_cancel_left}
 use Rattle.properties_tree.specs.Characters.{is_blank, is_separator}
-use Rattle.properties_tree.specs.Lines.{Line, leading_blanks, unblanked, goes_on, is_empty_or_comment}
+use Rattle.rw_base.specs.NaturalLines.{Line}
+use Rattle.properties_tree.specs.Lines.{leading_blanks, unblanked, goes_on, is_empty_or_comment}
 use Rattle.properties_tree.specs.Entries.{Logical, Piece, char, joint, raw, meant, Joined, joined, grouped, logical_lines, through, behind, Entry, entry_of, entries_of, key_length, separator_length, begins_with_separator}
 use Rattle.properties_tree.specs.Sizes.{ending_length, entries_from, with_entry}
 use Rattle.properties_tree.specs.Cutting.{joins, pieces_in, key_front, separator_front, separator_from, key_size, separator_size, line_size}

@@ -4,7 +4,7 @@ use Rattle.std.specs.Prelude.{◌==◌, if◌then◌else◌}
 use Rattle.std.proofs.lemmas.Bool.{cases_Bool, eqb-true}
 use Rattle.std.proofs.lemmas.List.{append-nil}
 use Rattle.properties_tree.specs.Characters.{is_line_end}
-use Rattle.properties_tree.specs.Lines.{Line, begins_with_lf, lines_of}
+use Rattle.rw_base.specs.NaturalLines.{Line, begins_with_lf, lines_of}
 use Rattle.properties_tree.specs.Entries.{entries_of, grouped, logical_lines}
 use Rattle.properties_tree.specs.Sizes.{text_length, ending_length, entries_from}
 

@@ -7,7 +7,7 @@ use Rattle.rw_base.specs.declared.tree.NodeRow.{NodeRow}
 use Rattle.rw_base.specs.declared.tree.Part.{Part}
 use Rattle.rw_base.specs.declared.tree.Part.TheVariants as part
 use Rattle.properties_tree.specs.Entries.{Entry, Properties, properties_of, entries_of, grouped, raw}
-use Rattle.properties_tree.specs.Lines.{lines_of}
+use Rattle.rw_base.specs.NaturalLines.{lines_of}
 use Rattle.properties_tree.specs.Layout.{leaves_from, leaf_from, entry_leaves, entry_end, entry_row, entry_rows, entry_parts, file_row, tree_of}
 use Rattle.properties_tree.specs.Reading.{IsRead, leaves_at, left_of, numbered_parts}
 use Rattle.properties_tree.specs.Sizes.{entries_from, with_entry, whole_size, BeginsPassed, BeginsEntry}

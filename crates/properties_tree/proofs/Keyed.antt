@@ -7,7 +7,8 @@ use Rattle.std.specs.Str.{bytes_eq}
 use Rattle.std.proofs.lemmas.List.{drop-drop, drop_all, length-take-le, take_at, take_all, take_rest}
 use Rattle.rw_base.specs.Joins.{joined_slices}
 use Rattle.properties_tree.specs.Characters.{has_backslash}
-use Rattle.properties_tree.specs.Lines.{whole_line, leading_blanks, unblanked}
+use Rattle.rw_base.specs.NaturalLines.{whole_line}
+use Rattle.properties_tree.specs.Lines.{leading_blanks, unblanked}
 use Rattle.properties_tree.specs.Entries.{Logical, passed, entry, raw, joined, Entry, entry_of, Properties, entries_of, properties_of, no_entry}
 use Rattle.properties_tree.specs.Decoding.{key_text, entry_at}
 use Rattle.properties_tree.specs.Sizes.{begins_no_entry, ending_length, entries_from, whole_size, BeginsPassed, BeginsEntry}

@@ -5,7 +5,8 @@ use Rattle.std.proofs.Math.Seq.{take-add, drop-append-add}
 use Rattle.std.proofs.lemmas.Bool.{cases_Bool, eqb-true, eqb-false, eq-eqb, ne_eqb, or_cases}
 use Rattle.std.proofs.lemmas.List.{take-append-drop, drop-drop, length-take-le}
 use Rattle.properties_tree.specs.Characters.{is_line_end, is_blank, backslash}
-use Rattle.properties_tree.specs.Lines.{Line, leading_blanks, unblanked, goes_on, is_odd, backslashes_behind}
+use Rattle.rw_base.specs.NaturalLines.{Line}
+use Rattle.properties_tree.specs.Lines.{leading_blanks, unblanked, goes_on, is_odd, backslashes_behind}
 use Rattle.properties_tree.specs.Entries.{Logical, Piece, char, joint, raw, chars, without_last, Joined, joined, grouped, logical_lines}
 use Rattle.properties_tree.specs.Sizes.{text_length, ending_length}
 use Rattle.properties_tree.specs.Cutting.{joins, joint_size, pieces_in, line_size}

@@ -3,7 +3,8 @@ use Rattle.std.proofs.Common.{◌≡◌, ℕ, zero, suc, true, false, List, [], 
 use Rattle.std.specs.Prelude.{◌==◌}
 use Rattle.std.proofs.lemmas.Bool.{cases_Bool, false≢true, or_parts}
 use Rattle.properties_tree.specs.Characters.{backslash, has_backslash}
-use Rattle.properties_tree.specs.Lines.{Line, lines_of, leading_blanks, unblanked, whole_line, goes_on}
+use Rattle.rw_base.specs.NaturalLines.{Line, lines_of, whole_line}
+use Rattle.properties_tree.specs.Lines.{leading_blanks, unblanked, goes_on}
 use Rattle.properties_tree.specs.Entries.{Logical, passed, entry, Piece, char, joint, raw, meant, chars, without_last, key_length, separator_length, Joined, joined, through, behind, Entry, entry_of, entries_of, properties_of, no_entry, logical_lines}
 use Rattle.properties_tree.specs.Decoding.{elements_behind, text_of, decoded, key_text, entry_at}
 use Rattle.properties_tree.proofs.Plain.{meant-chars}

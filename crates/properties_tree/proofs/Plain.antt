@@ -3,7 +3,8 @@ use Rattle.std.proofs.Common.{◌≡◌, ℕ, ◌+◌, true, false, List, [], �
 use Rattle.std.proofs.Math.Seq.{take-add}
 use Rattle.std.proofs.lemmas.Bool.{cases_Bool}
 use Rattle.std.proofs.lemmas.List.{drop-drop}
-use Rattle.properties_tree.specs.Lines.{Line, goes_on, unblanked, is_empty_or_comment, is_passed_over}
+use Rattle.rw_base.specs.NaturalLines.{Line}
+use Rattle.properties_tree.specs.Lines.{goes_on, unblanked, is_empty_or_comment, is_passed_over}
 use Rattle.properties_tree.specs.Entries.{passed, entry, Logical, raw, meant, chars, joined, entries_of, grouped, logical_lines}
 use Rattle.properties_tree.specs.Sizes.{text_length, ending_length, entries_from}
 use Rattle.properties_tree.proofs.FirstLine.{line_text, behind_text, ending_text, lines_behind, line_of, first_line, at_end, entries_behind}

@@ -5,7 +5,8 @@ use Rattle.std.proofs.lemmas.Bool.{cases_Bool, false≢true, eqb-true, ne_eqb}
 use Rattle.std.proofs.lemmas.List.{take_at, drop_at}
 use Rattle.rw_base.specs.Arena.{end_from, end_of, leaf_at, text_of}
 use Rattle.properties_tree.specs.Characters.{is_blank, backslash}
-use Rattle.properties_tree.specs.Lines.{Line, whole_line, begins_with_lf, lines_of, with_text, with_ending, leading_blanks, unblanked, is_passed_over, goes_on, backslashes_behind, is_odd}
+use Rattle.rw_base.specs.NaturalLines.{Line, whole_line, begins_with_lf, lines_of, with_text, with_ending}
+use Rattle.properties_tree.specs.Lines.{leading_blanks, unblanked, is_passed_over, goes_on, backslashes_behind, is_odd}
 use Rattle.properties_tree.specs.Entries.{Logical, grouped, Piece, char, joint, raw, chars, without_last, Joined, joined, through, behind, Entry, entry_of, key_length, separator_length, meant, Properties, entries_of, properties_of, no_entry}
 use Rattle.properties_tree.specs.Laws.{whole_entry, whole_of}
 use Rattle.properties_tree.specs.Sizes.{entries_from}

@@ -1,7 +1,8 @@
 -- Logical lines, and the entries that they are.
 use Rattle.std.specs.Prelude.{ℕ, zero, suc, ◌+◌, ◌-◌, ◌==◌, Bool, true, false, List, [], ◌∷◌, ◌++◌, length, take, drop, map, if◌then◌else◌}
 use Rattle.properties_tree.specs.Characters.{is_separator, ends_key, backslash}
-use Rattle.properties_tree.specs.Lines.{Line, whole_line, lines_of, leading_blanks, unblanked, is_passed_over, goes_on}
+use Rattle.rw_base.specs.NaturalLines.{Line, whole_line, lines_of}
+use Rattle.properties_tree.specs.Lines.{leading_blanks, unblanked, is_passed_over, goes_on}
 
 -- ---- logical lines
 

@@ -4,7 +4,7 @@ use Rattle.rw_base.specs.Arena.{IsTree}
 use Rattle.properties_tree.specs.Entries.{Entry, properties_of, raw}
 use Rattle.properties_tree.specs.Decoding.{key_text, value_text, entry_at}
 use Rattle.properties_tree.specs.Layout.{tree_of}
-use Rattle.properties_tree.specs.declared.reader.TheConstants.{MOST_BYTES}
+use Rattle.rw_base.specs.declared.leaves.TheConstants.{MOST_BYTES}
 use Rattle.properties_tree.specs.Spelling.{spelled_key, spelled_value}
 
 -- an entry as it stands in its file

@@ -3,7 +3,7 @@ use Rattle.std.specs.Prelude.{ℕ, List}
 use Rattle.rw_base.specs.Places.{place_at}
 use Rattle.rw_base.specs.declared.place.Refused.{Refused}
 use Rattle.rw_base.specs.declared.place.Cause.TheVariants as cause
-use Rattle.properties_tree.specs.declared.reader.TheConstants.{MOST_BYTES}
+use Rattle.rw_base.specs.declared.leaves.TheConstants.{MOST_BYTES}
 
 -- a file with more bytes than are read, refused at the first of them that is too many
 unfoldable pub too_large : List ℕ → Refused

@@ -1,7 +1,7 @@
 -- How many bytes the parts of a line have, as the reader counts them.
 use Rattle.std.specs.Prelude.{◌≡◌, ℕ, suc, ◌+◌, ◌<◌, ◌≤◌, ◌==◌, ◌||◌, Bool, true, List, [], ◌∷◌, ◌++◌, length, take, drop, if◌then◌else◌}
 use Rattle.properties_tree.specs.Characters.{is_line_end, is_comment_mark}
-use Rattle.properties_tree.specs.Lines.{begins_with_lf, lines_of}
+use Rattle.rw_base.specs.NaturalLines.{begins_with_lf, lines_of}
 use Rattle.properties_tree.specs.Entries.{Entry, Piece, Properties, entries_of, logical_lines, raw}
 use Rattle.properties_tree.specs.declared.reader.Sizes.{Sizes}
 use Rattle.properties_tree.specs.declared.reader.Found.{Found}

@@ -19,6 +19,6 @@ pub use keys::{KeyPlace, next_with_key};
 pub use laws::{files_have_trees, keys_read_back, parts_are_the_file, values_read_back};
 pub use layout::{END, ENDING, ENTRY, FILE, KEY, SEPARATOR, VALUE};
 pub use option::PropertiesChangePropertyKey;
-pub use reader::{MOST_BYTES, read_properties};
+pub use reader::read_properties;
 pub use spelling::{spell_key, spell_value};
 pub use tree::{entry_count, has_key, key_leaf, key_of, value_of};

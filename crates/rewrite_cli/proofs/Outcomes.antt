@@ -4,7 +4,7 @@ use Rattle.std.proofs.lemmas.Bool.{le-ltb, lt-ltb}
 use Rattle.std.specs.Str.{bytes_eq}
 use Rattle.std.specs.Cmp.Lexicographic.{same_text}
 use Rattle.rw_base.specs.NewText.{new_text}
-use Rattle.properties_tree.specs.declared.reader.TheConstants.{MOST_BYTES}
+use Rattle.rw_base.specs.declared.leaves.TheConstants.{MOST_BYTES}
 use Rattle.properties_tree.specs.Layout.{tree_of}
 use Rattle.conf_recipes.specs.PropertiesEdits.{edits_of}
 use Rattle.rewrite_cli.specs.Renaming.{options_of, renamed, new_bytes}

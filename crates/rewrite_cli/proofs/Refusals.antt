@@ -8,7 +8,7 @@ use Rattle.std.proofs.lemmas.List.{append-nil, map-append, drop_all, take_more}
 use Rattle.std.proofs.lemmas.Bool.{cases_lt}
 use Rattle.std.proofs.lemmas.Bool.Decides.{nat_tests}
 use Rattle.rw_host.specs.Files.{Files, SameElsewhere, first_bytes, all_bytes, length-first_bytes}
-use Rattle.properties_tree.specs.declared.reader.TheConstants.{MOST_BYTES}
+use Rattle.rw_base.specs.declared.leaves.TheConstants.{MOST_BYTES}
 use Rattle.rewrite_cli.specs.declared.changes.Change.{Change}
 use Rattle.rewrite_cli.specs.Paths.{is_properties}
 use Rattle.rewrite_cli.specs.Renaming.{new_bytes, is_refused, bytes_after}

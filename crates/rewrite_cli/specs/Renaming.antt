@@ -2,7 +2,7 @@
 use Rattle.std.specs.Prelude.{ℕ, Bool, ◌||◌, ◌&&◌, nat_lt, List, length, Option, None, Some, is_none, unwrap_or, if◌then◌else◌}
 use Rattle.rw_base.specs.NewText.{new_text}
 use Rattle.properties_tree.specs.declared.option.PropertiesChangePropertyKey.{PropertiesChangePropertyKey}
-use Rattle.properties_tree.specs.declared.reader.TheConstants.{MOST_BYTES}
+use Rattle.rw_base.specs.declared.leaves.TheConstants.{MOST_BYTES}
 use Rattle.properties_tree.specs.Layout.{tree_of}
 use Rattle.conf_recipes.specs.PropertiesEdits.{edits_of}
 use Rattle.rewrite_cli.specs.Paths.{is_properties}

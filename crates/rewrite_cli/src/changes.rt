@@ -8,7 +8,8 @@ ghost use Rattle.rewrite_cli.specs.Pairs.{pairs};
 
 use crate::paths::is_properties;
 use crate::renaming::{Outcome, outcome_of};
-use properties_tree::{MOST_BYTES, PropertiesChangePropertyKey};
+use properties_tree::PropertiesChangePropertyKey;
+use rw_base::MOST_BYTES;
 use rw_host::{Failed, PathText, Store, StoreFault};
 use std::alloc::Global;
 

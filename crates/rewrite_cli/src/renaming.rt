@@ -5,8 +5,8 @@ ghost use Rattle.rewrite_cli.specs.Renaming.{new_bytes};
 ghost use Rattle.rewrite_cli.specs.Outcomes.{bytes_told, IsOther};
 
 use conf_recipes::renamed_in_properties;
-use properties_tree::{MOST_BYTES, PropertiesChangePropertyKey};
-use rw_base::Mem;
+use properties_tree::PropertiesChangePropertyKey;
+use rw_base::{MOST_BYTES, Mem};
 use std::alloc::Global;
 
 /// What becomes of a properties file.

@@ -13,6 +13,9 @@ pub mod EditLaws
 pub mod SpanLaws
 pub mod Chosen
 pub mod Places
+pub mod NaturalLines
+pub mod Expressions
+pub mod Fronts
 pub mod Tasks
 pub mod Laws
 pub mod Calls

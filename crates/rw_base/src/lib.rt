@@ -5,20 +5,24 @@ mod chosen;
 mod edit;
 mod front_buffer;
 mod leaf_edits;
+mod leaves;
 mod memory;
 mod node_edits;
 mod place;
 mod reading;
 mod rearranging;
+mod shared;
 #[cfg(test)]
 mod tests;
 mod text;
 mod tree;
 
 pub use edit::{Edit, Item, Spot};
+pub use leaves::{Bad, Leaves, MOST_BYTES};
 pub use memory::{Mem, NoMemory};
 pub use place::{Cause, Place, ReadFault, Refused, place_of};
 pub use reading::Reading;
 pub use rearranging::{gaps_stay, rearranged};
+pub use shared::Shared;
 pub use text::Text;
 pub use tree::{Leaf, NodeId, NodeRow, Part, Tree, print};

@@ -1,6 +1,6 @@
 // The leaves of a class in which the usual forms of Java 8 stand together.
 use crate::java_leaves;
-use rw_base::{Leaf, Mem};
+use rw_base::{Leaf, MOST_BYTES, Mem};
 use std::alloc::Global;
 use std::test::Fail;
 
@@ -90,7 +90,7 @@ fn spaced(alloc: Global, text: &[u8], leaves: &[Leaf]) -> Mem<Vec<u8>> {
 #[test]
 fn a_whole_class_is_cut(rt: HostRuntime) -> Result<(), Fail> {
     let alloc = rt.alloc();
-    assert!(rt; SHOP.len() <= crate::MOST_BYTES);
+    assert!(rt; SHOP.len() <= MOST_BYTES);
     let cut = java_leaves(alloc, SHOP)?;
     assert_eq!(rt; cut.bad, None);
     let text = spaced(alloc, SHOP, &cut.leaves)?;

@@ -1,4 +1,4 @@
--- Regular expressions over bytes, in which the lexical grammar of Java is written down.
+-- Regular expressions over bytes, in which lexical grammars are written down.
 use Rattle.std.specs.Prelude.{◌≡◌, ℕ, ◌≤◌, ◌⊎◌, List, [], ◌∷◌, ◌++◌}
 
 infixr 30 ◌>>◌
