@@ -10,7 +10,9 @@ ghost use Rattle.properties_tree.specs.Sizes.{Begins, whole_size};
 use crate::layout::{END, ENDING, ENTRY, FILE, KEY, SEPARATOR, VALUE};
 use crate::lines::{begins_no_entry, blanks_length, ending_length, text_length};
 use crate::pieces::{key_size, line_size, separator_size};
-use rw_base::{Cause, Leaf, MOST_BYTES, Mem, NodeId, NodeRow, Part, ReadFault, Refused, Tree, place_of};
+use rw_base::{
+    Cause, Leaf, MOST_BYTES, Mem, NodeId, NodeRow, Part, ReadFault, Refused, Tree, place_of,
+};
 use sqlite_items::Items;
 use std::alloc::Global;
 

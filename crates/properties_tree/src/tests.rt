@@ -3,8 +3,8 @@ ghost use Rattle.std.specs.Prelude.{◌≡◌};
 ghost use Rattle.properties_tree.specs.Layout.{tree_of};
 
 use crate::{
-    KeyPlace, entry_count, has_key, key_leaf, key_of, next_with_key, read_properties,
-    spell_key, spell_value, value_of,
+    KeyPlace, entry_count, has_key, key_leaf, key_of, next_with_key, read_properties, spell_key,
+    spell_value, value_of,
 };
 use rw_base::{Cause, MOST_BYTES, Mem, NodeId, ReadFault, Tree};
 use std::alloc::Global;
