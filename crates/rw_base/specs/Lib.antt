@@ -1,4 +1,5 @@
 pub mod Arena
+pub mod Cut
 pub mod Trees
 pub mod Rows
 pub mod Laid
