@@ -1,4 +1,6 @@
 pub mod Arena
+pub mod Heads
+pub mod KeptNodes
 pub mod Trees
 pub mod Rows
 pub mod Laid
