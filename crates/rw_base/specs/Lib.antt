@@ -1,6 +1,7 @@
 pub mod Arena
 pub mod Heads
 pub mod KeptNodes
+pub mod Cut
 pub mod Trees
 pub mod Rows
 pub mod Laid
