@@ -1,3 +1,4 @@
+pub mod HeadLemmas
 pub mod PlaceLemmas
 pub mod Tiles
 pub mod NewTextLemmas

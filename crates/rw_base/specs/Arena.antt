@@ -15,8 +15,12 @@ pub record Arena : Type 0 where
 abbrev pub no_leaf : Leaf
 no_leaf = record { prefix_from = 0; from = 0; to = 0; class = 0 }
 
+-- the row of a node by its kind, its first leaf, the leaf behind its last, and its parts
+abbrev pub row_of : ℕ → ℕ → ℕ → List Part → NodeRow
+row_of kind first past parts = record { kind = kind; first = first; past = past; parts = parts }
+
 abbrev pub no_row : NodeRow
-no_row = record { kind = 0; first = 0; past = 0; parts = [] }
+no_row = row_of 0 0 0 []
 
 -- the leaf or node of a number
 unfoldable pub leaf_at : List Leaf → ℕ → Leaf

@@ -1,4 +1,6 @@
 pub mod Arena
+pub mod Heads
+pub mod KeptNodes
 pub mod Cut
 pub mod Trees
 pub mod Rows

@@ -3,7 +3,8 @@ ghost use Rattle.std.specs.Prelude.{◌≡◌, ◌<◌, ◌≤◌, ◌+◌, ◌+
 ghost use Rattle.rw_base.specs.Arena.{Arena, IsTree, AreBelow, leaf_at, kind_of, first_of, past_of, parts_of, prefix_of, text_of, print_of, end_of};
 ghost use Rattle.rw_base.specs.Laid.{kids_of, forest_of};
 
-use crate::Mem;
+use crate::kept_nodes::KeptNodes;
+use crate::{Mem, Nodes};
 use sqlite_items::Items;
 use std::marker::Model;
 
@@ -41,7 +42,7 @@ pub struct NodeRow {
 #[derive(Debug, Drop)]
 pub struct Tree {
     leaves: Vec<Leaf>,
-    nodes: Vec<NodeRow>,
+    nodes: KeptNodes,
     root: NodeId,
 }
 
@@ -50,9 +51,9 @@ impl Model for Tree {
 
     ghost Value = { Arena };
 
-    ghost view = { λ t. record { leaves = t.leaves.items; nodes = t.nodes.items; root = t.root.0 } };
+    ghost view = { λ t. record { leaves = t.leaves.items; nodes = t.nodes; root = t.root.0 } };
 
-    ghost invariant = { λ t. IsTree (record { leaves = t.leaves.items; nodes = t.nodes.items; root = t.root.0 }) };
+    ghost invariant = { λ t. IsTree (record { leaves = t.leaves.items; nodes = t.nodes; root = t.root.0 }) };
 }
 
 impl Tree {
@@ -61,6 +62,24 @@ impl Tree {
         requires { IsTree (record { leaves = leaves.items; nodes = nodes.items; root = root.0 }) }
         ensures { result ≡ record { leaves = leaves.items; nodes = nodes.items; root = root.0 } }
     {
+        let nodes = KeptNodes::from_rows(nodes);
+        Tree {
+            leaves,
+            nodes,
+            root,
+        }
+    }
+
+    /// The same of nodes that share one list of parts. What room no leaf, node or part fills is given back.
+    pub fn of_nodes(leaves: Vec<Leaf>, nodes: Nodes, root: NodeId) -> Tree
+        requires { IsTree (record { leaves = leaves.items; nodes = nodes; root = root.0 }) }
+        ensures { result ≡ record { leaves = leaves.items; nodes = nodes; root = root.0 } }
+    {
+        let mut leaves = leaves;
+        let mut nodes = nodes;
+        leaves.shrink_to_fit();
+        nodes.fit();
+        let nodes = KeptNodes::from_nodes(nodes);
         Tree {
             leaves,
             nodes,
@@ -110,7 +129,7 @@ impl Tree {
         requires { n.0 < length self.now.nodes }
         ensures { result ≡ kind_of self.now.nodes n.0 }
     {
-        self.nodes[n.0 as usize].kind
+        self.nodes.kind(n)
     }
 
     /// The parts of a node, in order: leaves, and nodes that stand before it. Their trees are the node's.
@@ -121,7 +140,7 @@ impl Tree {
         ensures kids { kids_of self.now.nodes n.0 ≡ forest_of self.now.nodes result.now }
         ensures below { AreBelow (length self.now.leaves) n.0 result.now }
     {
-        self.nodes[n.0 as usize].parts.as_slice()
+        self.nodes.parts(n)
     }
 
     /// The first leaf of a node, and the one behind its last.
@@ -132,8 +151,7 @@ impl Tree {
         ensures past { result.1 ≡ past_of self.now.nodes n.0 }
         ensures tree { IsTree self.now }
     {
-        let row = &self.nodes[n.0 as usize];
-        (row.first, row.past)
+        self.nodes.leaves_of(n)
     }
 
     /// The text of a leaf, in the bytes that the tree was read from.

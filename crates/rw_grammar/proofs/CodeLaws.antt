@@ -10,7 +10,7 @@ use Rattle.rw_grammar.specs.declared.shape.Shape.TheOpen.{Shape-F}
 use Rattle.rw_grammar.specs.declared.codes.Word.{Word}
 use Rattle.rw_grammar.specs.declared.codes.Word.TheVariants as word
 use Rattle.rw_grammar.specs.Parts.{Parts, end, one, rule, choice, opt, many}
-use Rattle.rw_grammar.specs.Shapes.{in_row, either, in_front, before, parts_of, all_parts}
+use Rattle.rw_grammar.specs.Shapes.{in_row, either, in_front, before, shape_parts, all_parts}
 use Rattle.rw_grammar.specs.Codes.{spell, codes_of, codes_of_all, spelled, spells, spells_rules, row_first, choice_first, opt_first, many_first, stand_for, parts_spelled}
 use Rattle.rw_grammar.specs.Words.{written, written_all, asked, BeginWithWord, SpellSome, shape_of, IsMade, AreStacked}
 
@@ -229,7 +229,7 @@ whole ss ps (q ∷ qs) e l = let h : length ss ≡ length ps + length (q ∷ qs)
 
 parts_mapped : (ss : List Shape) → map (λ f. f end) (map before ss) ≡ all_parts ss
 parts_mapped [] = refl
-parts_mapped (s ∷ ss) = ap (λ ps. parts_of s ∷ ps) (parts_mapped ss)
+parts_mapped (s ∷ ss) = ap (λ ps. shape_parts s ∷ ps) (parts_mapped ss)
 
 pub record AreRead (codes : List ℕ) (rules : List Shape) : Type 0 where
   pub spelled : codes ≡ spelled rules

@@ -11,7 +11,8 @@ use Rattle.rw_base.specs.Rows.{value, value_at, folded}
 use Rattle.rw_base.specs.Laid.{parts_from, rows_from}
 use Rattle.rw_base.specs.LaidLaws.{trees_in, row_from, length-rows, length-parts, rows_leaf, rows_node}
 use Rattle.rw_grammar.specs.Depth.{worth, highest_of, first_above, height_by, all_heights}
-use Rattle.rw_grammar.specs.Results.{around, too_deep, limit, BeginsWith}
+use Rattle.rw_grammar.specs.declared.depth.TheConstants.{DEPTH_LIMIT}
+use Rattle.rw_grammar.specs.Results.{around, too_deep, IsFirstOf}
 use Rattle.rw_grammar.specs.Results as results
 
 -- ---- the heights that the code makes
@@ -143,17 +144,17 @@ lt_false : (a b : ℕ) → nat_lt a b ≡ false → b ≤ a
 lt_false a b h = grind (arith, nat_tests, h)
 
 -- of a node
-own_flat : (k at allowed : ℕ) (kids : Forest) → k + allowed ≡ 300 → worth (trees_in kids) + height kids ≤ allowed →
-    ((j a b : ℕ) → j + b ≡ 300 → height kids ≤ b → too_deep j a kids ≡ []) → own_deep k at kids ≡ []
+own_flat : (k at allowed : ℕ) (kids : Forest) → k + allowed ≡ DEPTH_LIMIT → worth (trees_in kids) + height kids ≤ allowed →
+    ((j a b : ℕ) → j + b ≡ DEPTH_LIMIT → height kids ≤ b → too_deep j a kids ≡ []) → own_deep k at kids ≡ []
 own_flat k at allowed kids e le flat = go (nat_le 2 (trees_in kids)) le
   where
-    go : (b : Bool) → (if b then 1 else 0) + height kids ≤ allowed → (if b && nat_le limit k then at ∷ [] else []) ++ too_deep (if b then k + 1 else k) at kids ≡ []
+    go : (b : Bool) → (if b then 1 else 0) + height kids ≤ allowed → (if b && nat_le DEPTH_LIMIT k then at ∷ [] else []) ++ too_deep (if b then k + 1 else k) at kids ≡ []
     go true h =
-        let low : nat_le limit k ≡ false = le_false 300 k (omega arith) in
+        let low : nat_le DEPTH_LIMIT k ≡ false = le_false DEPTH_LIMIT k (omega arith) in
         rw low (flat (k + 1) at (allowed - 1) (omega arith) (omega arith))
     go false h = flat k at allowed e (omega arith)
 
-flat : (f : Forest) (k at allowed : ℕ) → k + allowed ≡ 300 → height f ≤ allowed → too_deep k at f ≡ []
+flat : (f : Forest) (k at allowed : ℕ) → k + allowed ≡ DEPTH_LIMIT → height f ≤ allowed → too_deep k at f ≡ []
 flat none k at allowed e le = refl
 flat (leaf i f) k at allowed e le = flat f k (at + 1) allowed e le
 flat (node u r kids f) k at allowed e le =
@@ -173,12 +174,12 @@ pub record Spot (rows : List NodeRow) (whole : List ℕ) (n allowed : ℕ) : Typ
   others : Forest
   among : Among rows first at (node tt kind kids others)
   is : n ≡ first + size kids
-  depth : around_it + allowed ≡ 300
+  depth : around_it + allowed ≡ DEPTH_LIMIT
   high : allowed < worth (trees_in kids) + height kids
   rest : List ℕ
   ahead : whole ≡ own_deep around_it at kids ++ rest
 
-enter : (rows : List NodeRow) (whole rest : List ℕ) (f : Forest) (n at k allowed m : ℕ) → Among rows n at f → k + allowed ≡ 300 → first_above (tall rows) allowed (parts_from n f) ≡ Some m → whole ≡ too_deep k at f ++ rest → (m < n + size f) × Spot rows whole m allowed
+enter : (rows : List NodeRow) (whole rest : List ℕ) (f : Forest) (n at k allowed m : ℕ) → Among rows n at f → k + allowed ≡ DEPTH_LIMIT → first_above (tall rows) allowed (parts_from n f) ≡ Some m → whole ≡ too_deep k at f ++ rest → (m < n + size f) × Spot rows whole m allowed
 unfolding parts_from
 enter rows whole rest none n at k allowed m s e h w = absurd (cc)
 enter rows whole rest (leaf i f) n at k allowed m s e h w = enter rows whole rest f n (at + 1) k allowed m (among_leaf rows n at i f s) e h w
@@ -248,13 +249,13 @@ module _ (rows : List NodeRow) (hs : List ℕ) (made : hs ≡ all_heights rows) 
     pub last_is : length rows - 1 ≡ size kids
     last_is = omega (arith, ap length are, length-rows 0 0 (node tt k kids none))
 
-    pub root_low : slice_index hs (length rows - 1) ≤ 300 → too_deep 0 0 (node tt k kids none) ≡ []
+    pub root_low : slice_index hs (length rows - 1) ≤ DEPTH_LIMIT → too_deep 0 0 (node tt k kids none) ≡ []
     root_low le =
         let zero_size : 0 + size kids ≡ size kids = omega arith in
         let t = tall_here rows 0 0 k kids none root_among in
-        flat (node tt k kids none) 0 0 300 (omega arith) (omega (arith, t, height_is (length rows - 1), ap (tall rows) (last_is ∙ sym zero_size), le))
+        flat (node tt k kids none) 0 0 DEPTH_LIMIT (omega arith) (omega (arith, t, height_is (length rows - 1), ap (tall rows) (last_is ∙ sym zero_size), le))
 
-    pub root_spot : 300 < slice_index hs (length rows - 1) → Spot rows (too_deep 0 0 (node tt k kids none)) (length rows - 1) 300
+    pub root_spot : DEPTH_LIMIT < slice_index hs (length rows - 1) → Spot rows (too_deep 0 0 (node tt k kids none)) (length rows - 1) DEPTH_LIMIT
     root_spot lt =
         let zero_size : 0 + size kids ≡ size kids = omega arith in
         record {
@@ -287,12 +288,12 @@ module _ (rows : List NodeRow) (hs : List ℕ) (made : hs ≡ all_heights rows) 
       counts_is = ap (λ (r : NodeRow). worth (length r.parts)) row_is ∙ ap worth (length-parts s.first s.kids)
 
       -- the place is here
-      pub spot_found : allowed < worth (length row.parts) → BeginsWith row.first whole
+      pub spot_found : allowed < worth (length row.parts) → IsFirstOf row.first whole
       spot_found lt = go (nat_le 2 (trees_in s.kids)) refl
         where
-          go : (b : Bool) → nat_le 2 (trees_in s.kids) ≡ b → BeginsWith row.first whole
+          go : (b : Bool) → nat_le 2 (trees_in s.kids) ≡ b → IsFirstOf row.first whole
           go true e =
-              let deep : nat_le limit s.around_it ≡ true = le_true 300 s.around_it (omega (arith, s.depth, lt, counts_is, worth_one (trees_in s.kids))) in
+              let deep : nat_le DEPTH_LIMIT s.around_it ≡ true = le_true DEPTH_LIMIT s.around_it (omega (arith, s.depth, lt, counts_is, worth_one (trees_in s.kids))) in
               let here_is : results.here s.around_it s.at s.kids ≡ s.at ∷ [] = rw (e, deep) refl in
               record {
                 others = too_deep (around s.around_it s.kids) s.at s.kids ++ s.rest;
@@ -301,10 +302,10 @@ module _ (rows : List NodeRow) (hs : List ℕ) (made : hs ≡ all_heights rows) 
           go false e = let light : worth (trees_in s.kids) ≡ 0 = rw e refl in absurd (omega (arith, lt, counts_is, light))
 
       -- or in a part
-      below : (b : Bool) → nat_le 2 (trees_in s.kids) ≡ b → worth (length row.parts) ≤ allowed → (j : ℕ) × (j + (allowed - worth (length row.parts)) ≡ 300) × (whole ≡ too_deep j s.at s.kids ++ s.rest) × (allowed - worth (length row.parts) < height s.kids)
+      below : (b : Bool) → nat_le 2 (trees_in s.kids) ≡ b → worth (length row.parts) ≤ allowed → (j : ℕ) × (j + (allowed - worth (length row.parts)) ≡ DEPTH_LIMIT) × (whole ≡ too_deep j s.at s.kids ++ s.rest) × (allowed - worth (length row.parts) < height s.kids)
       below true e le =
           let heavy : worth (trees_in s.kids) ≡ 1 = rw e refl in
-          let low : nat_le limit s.around_it ≡ false = le_false 300 s.around_it (omega (arith, s.depth, le, counts_is, heavy)) in
+          let low : nat_le DEPTH_LIMIT s.around_it ≡ false = le_false DEPTH_LIMIT s.around_it (omega (arith, s.depth, le, counts_is, heavy)) in
           let own : own_deep s.around_it s.at s.kids ≡ too_deep (s.around_it + 1) s.at s.kids = rw (e, low) refl in
           (s.around_it + 1, omega (arith, s.depth, le, counts_is, heavy), s.ahead ∙ ap (λ xs. xs ++ s.rest) own, omega (arith, s.high, le, counts_is, heavy))
       below false e le =

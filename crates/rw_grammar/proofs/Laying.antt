@@ -12,7 +12,7 @@ use Rattle.rw_grammar.specs.declared.shape.Shape.TheVariants as shape
 use Rattle.rw_grammar.specs.declared.shape.Shape.TheVariants.{rolls-Leaf, rolls-Rule, rolls-Seq, rolls-Choice, rolls-Opt, rolls-Many}
 use Rattle.rw_grammar.specs.declared.shape.Shape.TheOpen.{Shape-F}
 use Rattle.rw_grammar.specs.Parts.{Parts, end, one, rule, choice, opt, many, or}
-use Rattle.rw_grammar.specs.Shapes.{in_row, either, in_front, before, parts_of}
+use Rattle.rw_grammar.specs.Shapes.{in_row, either, in_front, before, shape_parts}
 use Rattle.rw_grammar.specs.Cells.{any_of, grown, shape_at, cell_at, AllBelow, NamesBelow, AreCells, Lays}
 use Rattle.rw_grammar.proofs.CellLaws.{shape_append, shape_last}
 
@@ -43,7 +43,7 @@ module _ (more : Parts) where
   unfolding before
   many_before s = ap (λ (f : Parts → Parts). f more) (ap (fold-Shape (Parts → Parts) in_front) (sym (rolls-Many s)) ∙ fold-roll-Shape (Parts → Parts) in_front (Shape-F.Many s))
 
-pub either_any : (ss : List Shape) → either (map before ss) ≡ any_of (map parts_of ss)
+pub either_any : (ss : List Shape) → either (map before ss) ≡ any_of (map shape_parts ss)
 either_any [] = refl
 either_any (s ∷ ss) = ap (or (before s end)) (either_any ss)
 
@@ -123,9 +123,9 @@ end_laid old mid new y p a b =
     lays_then old mid new 0 0 end end end a (record { more = b.more; behind = b.behind; named = b.named; inside = omega (arith, lays_longer mid new y p b, a.inside); stands = lays_keep mid new y p b 0 a.inside ∙ a.stands }) refl
 
 pub alternatives_laid : (old new : List Cell) (ys : List ℕ) (y : ℕ) (ss : List Shape) (s : Shape) (k : ℕ) → Lays old new y (before s (shape_at old 0)) → shape_at old 0 ≡ end → AllBelow (length old) ys →
-    map (shape_at old) ys ≡ map parts_of (take k ss) → take (k + 1) ss ≡ take k ss ++ s ∷ [] → map (shape_at new) (ys ++ y ∷ []) ≡ map parts_of (take (k + 1) ss)
+    map (shape_at old) ys ≡ map shape_parts (take k ss) → take (k + 1) ss ≡ take k ss ++ s ∷ [] → map (shape_at new) (ys ++ y ∷ []) ≡ map shape_parts (take (k + 1) ss)
 alternatives_laid old new ys y ss s k a e below so_far t =
     map_push (shape_at new) ys y
     ∙ (ap (λ ps. ps ++ shape_at new y ∷ []) (lays_keep_all old new y (before s (shape_at old 0)) a ys below ∙ so_far)
-    ∙ (ap (λ p. map parts_of (take k ss) ++ p ∷ []) (a.stands ∙ ap (before s) e)
-    ∙ (sym (map_push parts_of (take k ss) s) ∙ ap (map parts_of) (sym t))))
+    ∙ (ap (λ p. map shape_parts (take k ss) ++ p ∷ []) (a.stands ∙ ap (before s) e)
+    ∙ (sym (map_push shape_parts (take k ss) s) ∙ ap (map shape_parts) (sym t))))

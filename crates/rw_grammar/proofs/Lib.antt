@@ -10,6 +10,5 @@ pub mod FaultLaws
 pub mod MadeTrees
 pub mod DepthLaws
 pub mod ClosedLaws
-pub mod TestLeaves
 pub mod CodeLaws
 pub mod Spelling

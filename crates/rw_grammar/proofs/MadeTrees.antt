@@ -8,7 +8,7 @@ use Rattle.rw_base.specs.LaidLaws.{leaves_beside, length-rows}
 use Rattle.rw_base.specs.LaidTrees.{numbers, laid, laid_rows, laid_is_tree}
 use Rattle.rw_grammar.specs.Parts.{Parts, rule_of}
 use Rattle.rw_grammar.specs.Derivation.{wrapped, Derives, by-end, by-one, by-rule, by-choice, by-empty, by-opt, by-no-opt, by-more, by-no-more}
-use Rattle.rw_grammar.specs.Results.{class_in, AreLeaves, AreRowsOf}
+use Rattle.rw_grammar.specs.Results.{class_in, AreTreeLeaves, AreRowsOf}
 
 wrapped_leaves : (r : ℕ) (f : Forest) → leaves_in (wrapped r f) ≡ leaves_in f
 wrapped_leaves r none = refl
@@ -51,6 +51,6 @@ module _ (rules : List Parts) (start : ℕ) (leaves : List Leaf) (rows : List No
       the_same : (xs : List NodeRow) (n : ℕ) → rows ≡ xs → root ≡ n → let t : Arena = record { leaves = leaves; nodes = rows; root = root } in let u : Arena = record { leaves = leaves; nodes = xs; root = n } in t ≡ u
       the_same xs n p q = cc
 
-  pub made_tree : AreLeaves leaves → (root : ℕ) → root ≡ length rows - 1 → IsTree (record { leaves = leaves; nodes = rows; root = root })
+  pub made_tree : AreTreeLeaves leaves → (root : ℕ) → root ≡ length rows - 1 → IsTree (record { leaves = leaves; nodes = rows; root = root })
   made_tree l root e =
       subst IsTree (sym (made_is root e)) (laid_is_tree leaves r.kind r.kids l.some l.few l.tile l.empty_end kids_leaves (omega (arith, count)))

@@ -1,8 +1,8 @@
 -- A run of the machine, from its start to its end.
 use Rattle.std.proofs.Common.{◌≡◌, ℕ, zero, suc, ◌+◌, ◌<◌, ◌≤◌, List, [], ◌∷◌, ◌++◌, length, take, drop, arith, refl, sym, ◌∙◌, ap, subst, inl, inr, append_assoc, append-nil, add-one, Bool, true, false}
-use Rattle.std.specs.Prelude.{Option, Some}
+use Rattle.std.specs.Prelude.{Option, Some, ◌↔◌}
 use Rattle.std.proofs.lemmas.List.{drop_all}
-use Rattle.std.proofs.lemmas.Bool.{false≢true}
+use Rattle.std.proofs.lemmas.Bool.{false≢true, cases_order}
 use Rattle.rw_base.specs.declared.tree.Part.{Part}
 use Rattle.rw_base.specs.declared.tree.Part.TheVariants as part
 use Rattle.rw_base.specs.declared.tree.NodeRow.{NodeRow}
@@ -49,38 +49,53 @@ module _ (rules : ℕ → Parts) (class : ℕ → ℕ) where
     start_viable q (inr e) = derived_viable e.2 e.3
 
     pub kept_start : Kept rules class start ls 0 (derive (rules start) ∷ close start none ∷ []) none
-    kept_start = record { comes = λ t. (λ e. e, λ e. e); goes = λ q m. (λ e. e, λ e. e) }
+    kept_start = record { comes = λ t. (λ e. e, λ e. e); goes = λ q m. (λ e. e, λ e. e); fronts = λ k le. so-far (no_front k le) }
+      where
+        no_front : (k : ℕ) → k ≤ 0 → take k ls ≡ []
+        no_front zero le = refl
+        no_front (suc k) le = absurd (omega arith)
 
     pub kept_same : (at : ℕ) (ts ts' : List Todo) (d d' : Forest) → Kept rules class start ls at ts d → Same rules class (drop at ls) ts d ts' d' → Kept rules class start ls at ts' d'
     kept_same at ts ts' d d' k s = record {
       comes = λ t. (λ e. (s.comes t).0 ((k.comes t).0 e), λ e. (k.comes t).1 ((s.comes t).1 e));
       goes = λ q m. (λ e. (s.goes q m).0 ((k.goes q m).0 e), λ e. (k.goes q m).1 ((s.goes q m).1 e));
+      fronts = k.fronts;
     }
 
     pub kept_back : (at : ℕ) (ts ts' : List Todo) (d d' : Forest) → Kept rules class start ls at ts d → Same rules class (drop at ls) ts' d' ts d → Kept rules class start ls at ts' d'
     kept_back at ts ts' d d' k s = record {
       comes = λ t. (λ e. (s.comes t).1 ((k.comes t).0 e), λ e. (k.comes t).1 ((s.comes t).0 e));
       goes = λ q m. (λ e. (s.goes q m).1 ((k.goes q m).0 e), λ e. (k.goes q m).1 ((s.goes q m).0 e));
+      fronts = k.fronts;
     }
 
     -- closing a rule is no step of its own
     pub kept_close : (at r : ℕ) (a : Forest) (ts : List Todo) (d : Forest) → Kept rules class start ls at (close r a ∷ ts) d → Kept rules class start ls at ts (beside a (wrapped r d))
-    kept_close at r a ts d k = record { comes = k.comes; goes = k.goes }
+    kept_close at r a ts d k = record { comes = k.comes; goes = k.goes; fronts = k.fronts }
 
     pub kept_takes : (at l : ℕ) (more : List ℕ) (ts ts' : List Todo) (d d' : Forest) → drop at ls ≡ l ∷ more → Kept rules class start ls at ts d → Takes rules class l more ts d ts' d' → Kept rules class start ls (at + 1) ts' d'
     kept_takes at l more ts ts' d d' e k s =
         let n = past_next at ls l more e in
+        let goes : (q : List ℕ) → Meets q (drop (suc at) ls) → Goes_on rules class (derive (rules start) ∷ close start none ∷ []) (take (suc at) ls ++ q) ↔ Goes_on rules class ts' q =
+        λ q h.
+        let meets : Meets (l ∷ q) (drop at ls) = subst (Meets (l ∷ q)) (sym e) refl in
+        let same : take (suc at) ls ++ q ≡ take at ls ++ (l ∷ q) = ap (λ xs. xs ++ q) n.1 ∙ append_assoc (take at ls) (l ∷ []) q in (
+          λ w. (s.goes q).0 ((k.goes (l ∷ q) meets).0 (subst (Goes_on rules class (derive (rules start) ∷ close start none ∷ [])) same w)),
+          λ w. subst (Goes_on rules class (derive (rules start) ∷ close start none ∷ [])) (sym same) ((k.goes (l ∷ q) meets).1 ((s.goes q).1 w)),
+        ) in
+        let last : Viable rules class (rules start) (take (suc at) ls) =
+        start_viable (take (suc at) ls) (subst (Goes_on rules class (derive (rules start) ∷ close start none ∷ [])) (append-nil (take (suc at) ls)) ((goes [] tt).1 (goes_nowhere rules class ts'))) in
         rw add-one (record {
           comes = λ t. (
             λ w. subst (λ m. Comes rules class ts' d' m t) (sym n.0) ((s.comes t).0 (subst (λ m. Comes rules class ts d m t) e ((k.comes t).0 w))),
             λ w. (k.comes t).1 (subst (λ m. Comes rules class ts d m t) (sym e) ((s.comes t).1 (subst (λ m. Comes rules class ts' d' m t) n.0 w))),
           );
-          goes = λ q h.
-              let meets : Meets (l ∷ q) (drop at ls) = subst (Meets (l ∷ q)) (sym e) refl in
-              let same : take (suc at) ls ++ q ≡ take at ls ++ (l ∷ q) = ap (λ xs. xs ++ q) n.1 ∙ append_assoc (take at ls) (l ∷ []) q in (
-                λ w. (s.goes q).0 ((k.goes (l ∷ q) meets).0 (subst (Goes_on rules class (derive (rules start) ∷ close start none ∷ [])) same w)),
-                λ w. subst (Goes_on rules class (derive (rules start) ∷ close start none ∷ [])) (sym same) ((k.goes (l ∷ q) meets).1 ((s.goes q).1 w)),
-              );
+          goes = goes;
+          fronts = λ i le. elim (cases_order i (suc at)) [
+            | inl same ↦ subst (λ j. Viable rules class (rules start) (take j ls)) (sym same) last
+            | inr (inl less) ↦ k.fronts i (omega arith)
+            | inr (inr more) ↦ absurd (omega arith)
+          ];
         })
 
     pub kept_ok : (at : ℕ) (d : Forest) → at ≡ length ls → Kept rules class start ls at [] d → DerivesTree rules class start ls d
@@ -92,7 +107,7 @@ module _ (rules : ℕ → Parts) (class : ℕ → ℕ) where
     stops : (at : ℕ) (ts : List Todo) (d : Forest) → at ≤ length ls → Kept rules class start ls at ts d → Stuck rules class (drop at ls) ts d → StopsAt rules class (rules start) ls at
     stops at ts d within k s = record {
       within = within;
-      viable = start_viable (take at ls) (subst (Goes_on rules class (derive (rules start) ∷ close start none ∷ [])) (append-nil (take at ls)) ((k.goes [] tt).1 (goes_nowhere rules class ts)));
+      viable = k.fronts;
       further = λ h v.
           let x = some_left at ls h in
           let n = past_next at ls x.0 x.1 x.2 in

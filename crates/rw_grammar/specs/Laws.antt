@@ -4,6 +4,7 @@ use Rattle.rw_base.specs.Trees.{Forest}
 use Rattle.rw_grammar.specs.Parts.{Parts, rule_of}
 use Rattle.rw_grammar.specs.Derivation.{DerivesTree}
 use Rattle.rw_grammar.specs.Faults.{IsSound}
+use Rattle.rw_grammar.specs.Viability.{StopsAt}
 use Rattle.rw_grammar.specs.declared.shape.Shape.{Shape}
 use Rattle.rw_grammar.specs.Codes.{spelled, spells_rules}
 
@@ -12,6 +13,12 @@ abbrev pub OneTree : Type 0
 OneTree =
     (rules : List Parts) → IsSound rules → (class : ℕ → ℕ) (start : ℕ) (ls : List ℕ) (t u : Forest) →
     DerivesTree (rule_of rules) class start ls t → DerivesTree (rule_of rules) class start ls u → t ≡ u
+
+-- The leaf behind the longest viable front is one.
+abbrev pub OneStop : Type 0
+OneStop =
+    (rules : ℕ → Parts) (class : ℕ → ℕ) (p : Parts) (ls : List ℕ) (a b : ℕ) →
+    StopsAt rules class p ls a → StopsAt rules class p ls b → a ≡ b
 
 -- No other rules are spelled by the same codes.
 abbrev pub OneSpelling : Type 0

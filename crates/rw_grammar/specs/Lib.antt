@@ -13,3 +13,4 @@ pub mod Cells
 pub mod Machine
 pub mod Depth
 pub mod Results
+pub mod StopLaws

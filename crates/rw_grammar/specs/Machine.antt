@@ -74,6 +74,7 @@ Meets (c ∷ q) (l ∷ ls) = c ≡ l
 pub record Kept (rules : ℕ → Parts) (class : ℕ → ℕ) (start : ℕ) (ls : List ℕ) (at : ℕ) (ts : List Todo) (d : Forest) : Type 0 where
   pub comes : (t : Forest) → Comes rules class (derive (rules start) ∷ close start none ∷ []) none ls t ↔ Comes rules class ts d (drop at ls) t
   pub goes : (q : List ℕ) → Meets q (drop at ls) → Goes_on rules class (derive (rules start) ∷ close start none ∷ []) (take at ls ++ q) ↔ Goes_on rules class ts q
+  pub fronts : (k : ℕ) → k ≤ at → Viable rules class (rules start) (take k ls)
 
 -- ---- the tasks that the code keeps, the last first
 

@@ -26,8 +26,8 @@ unfoldable pub before : Shape → Parts → Parts
 before s = fold-Shape (Parts → Parts) in_front s
 
 -- a rule's shape as a list
-abbrev pub parts_of : Shape → Parts
-parts_of s = before s end
+abbrev pub shape_parts : Shape → Parts
+shape_parts s = before s end
 
 abbrev pub all_parts : List Shape → List Parts
-all_parts ss = map parts_of ss
+all_parts ss = map shape_parts ss

@@ -23,10 +23,10 @@ pub data Viable (rules : ℕ → Parts) (class : ℕ → ℕ) : Parts → List �
   past-more : {x a : Parts} {ls mid : List ℕ} {f : Forest} → Goes rules class x ls → Derives rules class x ls mid f → Viable rules class (many x a) mid → Viable rules class (many x a) ls
   no-more : {x a : Parts} {ls : List ℕ} → (Goes rules class x ls → ⊥) → Viable rules class a ls → Viable rules class (many x a) ls
 
--- The leaf after the longest viable front: those before it are viable, and those up to it aren't. Where all of them
--- are viable, it is their number. And they aren't derived.
+-- The leaf after the longest viable front: every front up to before it is viable, and the one with it isn't. Where all
+-- leaves are viable, it is their number. And they aren't derived.
 pub record StopsAt (rules : ℕ → Parts) (class : ℕ → ℕ) (p : Parts) (ls : List ℕ) (at : ℕ) : Type 0 where
   pub within : at ≤ length ls
-  pub viable : Viable rules class p (take at ls)
+  pub viable : (k : ℕ) → k ≤ at → Viable rules class p (take k ls)
   pub further : at < length ls → Viable rules class p (take (at + 1) ls) → ⊥
   pub not_derived : (t : Forest) → Derives rules class p ls [] t → ⊥

@@ -95,7 +95,7 @@ pub(crate) fn lay_all(
 
 /// A number above each class of the cells.
 pub(crate) fn class_count(cells: &[Cell]) -> u32
-    ensures few { result ≤ 65536 }
+    ensures few { result ≤ u16.MAX + 1 }
     ensures above { (n c k : ℕ) → n < length cells.now → cell_at cells.now n ≡ Cell.One c k → c < result }
 {
     let mut count = 0;

@@ -3,13 +3,13 @@ ghost use Rattle.std.specs.Prelude.{◌≡◌, ℕ, [], ◌+◌, ◌<◌, ◌≤
 ghost use Rattle.rw_base.specs.Trees.{Forest, none, node};
 ghost use Rattle.rw_base.specs.Laid.{rows_from};
 ghost use Rattle.rw_grammar.specs.Depth.{worth, highest_of, first_above, all_heights};
-ghost use Rattle.rw_grammar.specs.Results.{too_deep, IsOneTree, BeginsWith};
+ghost use Rattle.rw_grammar.specs.Results.{too_deep, IsOneTree, IsFirstOf};
 
 use rw_base::{Mem, NodeRow, Part};
 use std::alloc::Global;
 
-/// So many nodes with two or more parts may lie around another such node, less one.
-const LIMIT: u32 = 300;
+/// A node with two or more parts that lies below so many such nodes is too deep.
+pub const DEPTH_LIMIT: u32 = 300;
 
 /// The height of a node, or 0 where there is none.
 fn height_at(heights: &[u32], n: u32) -> u32
@@ -66,16 +66,19 @@ fn first_high(parts: &[Part], heights: &[u32], height: u32) -> Option<u32>
     None
 }
 
-/// The first leaf of the first node with two or more parts that lies below too many such nodes. The root is the last row.
+/// The first leaf of the first node with two or more parts that lies below too many such nodes. The root is the last
+/// row.
 pub(crate) fn first_too_deep(alloc: Global, rows: &[NodeRow]) -> Mem<Option<u32>>
     requires tree { IsOneTree rows.now }
     requires few { length rows.now < 2 ^ 32 }
-    ensures none { result ≡ Ok None → (k : ℕ) (kids : Forest) → rows.now ≡ rows_from 0 0 (node tt k kids none) → too_deep 0 0 (node tt k kids none) ≡ [] }
-    ensures some { (leaf : ℕ) → result ≡ Ok (Some leaf) → (k : ℕ) (kids : Forest) → rows.now ≡ rows_from 0 0 (node tt k kids none) → BeginsWith leaf (too_deep 0 0 (node tt k kids none)) }
+    ensures none { result ≡ Ok None → (k : ℕ) (kids : Forest) → rows.now ≡ rows_from 0 0 (node tt k kids none)
+        → too_deep 0 0 (node tt k kids none) ≡ [] }
+    ensures some { (leaf : ℕ) → result ≡ Ok (Some leaf) → (k : ℕ) (kids : Forest)
+        → rows.now ≡ rows_from 0 0 (node tt k kids none) → IsFirstOf leaf (too_deep 0 0 (node tt k kids none)) }
 {
     let heights = heights_of(alloc, rows)?;
     let mut n = (rows.len() - 1) as u32;
-    let mut allowed = LIMIT;
+    let mut allowed = DEPTH_LIMIT;
     if height_at(heights.as_slice(), n) <= allowed {
         return Ok(None);
     }

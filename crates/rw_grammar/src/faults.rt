@@ -119,7 +119,7 @@ pub(crate) fn least_fault(
     empty: &[bool],
     columns: &[Items<bool>],
 ) -> Mem<Option<(u8, u16)>>
-    requires few { length roots.now ≤ 65536 }
+    requires few { length roots.now ≤ u16.MAX + 1 }
     requires known { AreKnown cells.now roots.now empty.now columns.now }
     ensures none { result ≡ Ok None → IsSound (rules_at cells.now roots.now) }
     ensures some { (number rule : ℕ) → result ≡ Ok (Some (number, rule)) → IsLeastFault (rules_at cells.now roots.now) number rule }

@@ -2,7 +2,7 @@
 ghost use Rattle.std.specs.Prelude.{◌≡◌, ℕ, ◌<◌, length, IfOk};
 ghost use Rattle.rw_grammar.specs.Parts.{rule_of};
 ghost use Rattle.rw_grammar.specs.Viability.{StopsAt};
-ghost use Rattle.rw_grammar.specs.Results.{AreLeaves, IsDerived, IsTooDeep, class_in, all_of};
+ghost use Rattle.rw_grammar.specs.Results.{AreTreeLeaves, IsDerived, IsTooDeep, class_in, all_of};
 
 use crate::depth::first_too_deep;
 use crate::machine::{Halt, Known, run};
@@ -38,7 +38,7 @@ pub fn derive(
     leaves: Vec<Leaf>,
 ) -> Result<Tree, DeriveFault>
     requires start { start < length table.now }
-    requires leaves { AreLeaves leaves.items }
+    requires leaves { AreTreeLeaves leaves.items }
     ensures tree { IfOk result (λ t. IsDerived table.now start leaves.items t) }
     ensures stop { (leaf : ℕ) → result ≡ Err (DeriveFault.Stop leaf) → StopsAt (rule_of table.now) (class_in leaves.items) (rule_of table.now start) (all_of leaves.items) leaf }
     ensures too_deep { (leaf : ℕ) → result ≡ Err (DeriveFault.TooDeep leaf) → IsTooDeep table.now start leaves.items leaf }

@@ -1,10 +1,15 @@
 // Laws of tables and derivations: functions that do nothing, whose clauses hold of every table and list of leaves.
 ghost use Rattle.rw_grammar.specs.Closed.{ClosedIsSound};
-ghost use Rattle.rw_grammar.specs.Laws.{OneSpelling, OneTree, SpelledAreRead};
+ghost use Rattle.rw_grammar.specs.Laws.{OneSpelling, OneStop, OneTree, SpelledAreRead};
 
 /// By a table without a fault a rule derives one tree from a list of leaves.
 pub fn a_rule_derives_one_tree()
     ensures { OneTree }
+{}
+
+/// A list of leaves that a rule doesn't derive has one leaf at which it stops.
+pub fn a_rule_stops_at_one_leaf()
+    ensures { OneStop }
 {}
 
 /// First classes, emptiness and a rank, written out for each rule, show that a table has no fault, where they are

@@ -13,12 +13,11 @@ mod shape;
 mod table;
 
 pub use codes::shapes;
+pub use depth::DEPTH_LIMIT;
 pub use greedy::{DeriveFault, derive};
 pub use laws::{
-    a_rule_derives_one_tree, closed_rows_show_a_sound_table, codes_spell_one_list_of_rules,
+    a_rule_derives_one_tree, a_rule_stops_at_one_leaf, closed_rows_show_a_sound_table,
+    codes_spell_one_list_of_rules,
 };
 pub use shape::Shape;
-pub use table::{Table, TableFault};
-
-#[cfg(test)]
-mod tests;
+pub use table::{MOST_RULES, Table, TableFault};

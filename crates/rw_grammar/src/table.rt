@@ -15,6 +15,9 @@ use sqlite_items::Items;
 use std::alloc::Global;
 use std::marker::Model;
 
+/// The most rules that a table may have: a rule's number is a `u16`.
+pub const MOST_RULES: usize = 65_536;
+
 /// Rules without a fault. A rule's number is its position.
 #[derive(Drop)]
 pub struct Table {
@@ -78,7 +81,7 @@ fn columns_of(alloc: Global, cells: &[Cell], roots: &[u32], empty: &[bool]) -> M
 impl Table {
     /// The table of these rules, if they have no fault.
     pub fn checked(alloc: Global, rules: Items<Shape>) -> Result<Table, TableFault>
-        requires { length rules ≤ 65536 }
+        requires { length rules ≤ MOST_RULES }
         ensures rules { IfOk result (λ t. t ≡ all_parts rules) }
         ensures sound { IfOk result (λ t. IsSound t) }
         ensures wrong { (number rule : _) → result ≡ Err (TableFault.Wrong number rule) → IsLeastFault (all_parts rules) number rule }

@@ -4,7 +4,7 @@ use Rattle.std.proofs.lemmas.List.{take_all}
 use Rattle.std.proofs.Math.Seq.{take-suc, drop-cons}
 use Rattle.rw_grammar.specs.declared.shape.Shape.{Shape}
 use Rattle.rw_grammar.specs.Parts.{end, one, rule, choice, opt, many}
-use Rattle.rw_grammar.specs.Shapes.{before, in_row, either, parts_of}
+use Rattle.rw_grammar.specs.Shapes.{before, in_row, either, shape_parts}
 use Rattle.rw_grammar.specs.Cells.{Lays, shape_at, any_of}
 use Rattle.rw_grammar.proofs.Laying.{leaf_before, rule_before, seq_before, choice_before, opt_before, many_before, either_any, lays_then, lays_longer, lays_keep, below_push, if_lays, if_lays_then, part_laid, end_laid, alternatives_laid}
 use Rattle.rw_grammar.proofs.cells.+lay.Goals as goal
@@ -61,7 +61,7 @@ returns-after-loop-part t c =
     let all : take c.loop-part.part-index ss ≡ ss = take_all c.loop-part.part-index ss (omega arith) in
     let several : any_of (map (shape_at mid) c.from_vec.result) ≡ either (map before c.in-Choice.several) =
     ap (λ (ys : List ℕ). any_of (map (shape_at mid) ys)) c.from_vec.ensures
-    ∙ (ap any_of (c.loop-part.invariant.parts ∙ ap (λ (ws : List Shape). map parts_of ws) (all ∙ c.as_slice-part-items.ensures)) ∙ sym (either_any c.in-Choice.several)) in
+    ∙ (ap any_of (c.loop-part.invariant.parts ∙ ap (λ (ws : List Shape). map shape_parts ws) (all ∙ c.as_slice-part-items.ensures)) ∙ sym (either_any c.in-Choice.several)) in
     if_lays_then c.add-in-Choice.result old mid c.add-in-Choice.new.cells.items 0 end (choice (any_of (map (shape_at mid) c.from_vec.result)) (shape_at mid c.args.next)) (before c.args.shape.now more)
     c.loop-part.invariant.lays c.add-in-Choice.ensures.lays
     (ap (λ p. choice p (shape_at mid c.args.next)) several

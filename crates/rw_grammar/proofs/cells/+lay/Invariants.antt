@@ -1,6 +1,6 @@
 use Rattle.std.proofs.Common.{◌≡◌, ◌≤◌, length, take, drop}
 use Rattle.std.specs.Prelude.{map}
-use Rattle.rw_grammar.specs.Shapes.{before, in_row, parts_of}
+use Rattle.rw_grammar.specs.Shapes.{before, in_row, shape_parts}
 use Rattle.rw_grammar.specs.Parts.{end}
 use Rattle.rw_grammar.specs.Cells.{Lays, shape_at, AllBelow}
 use Rattle.rw_grammar.proofs.cells.+lay.Given as goal
@@ -22,5 +22,5 @@ abbrev pub invariant-loop-part : goal.invariant-loop-part
 invariant-loop-part l = record {
   below : AllBelow (length l.cells.items) l.alternatives.items;
   lays : Lays l.fn.cells.items l.cells.items 0 end;
-  parts : map (shape_at l.cells.items) l.alternatives.items ≡ map parts_of (take l.part-index l.part-items);
+  parts : map (shape_at l.cells.items) l.alternatives.items ≡ map shape_parts (take l.part-index l.part-items);
 }

@@ -5,7 +5,7 @@ use Rattle.rw_base.specs.declared.tree.Part.{Part}
 use Rattle.rw_base.specs.Trees.{none, node}
 use Rattle.rw_base.specs.LaidLaws.{length-rows}
 use Rattle.rw_grammar.specs.Depth.{worth, first_above}
-use Rattle.rw_grammar.specs.Results.{too_deep, BeginsWith}
+use Rattle.rw_grammar.specs.Results.{too_deep, IsFirstOf}
 use Rattle.rw_grammar.proofs.DepthLaws.{Spot, root_low, root_spot, spot_inside, spot_found, spot_next, spot_ends}
 use Rattle.rw_grammar.proofs.depth.first_too_deep.Goals as goal
 
@@ -37,7 +37,7 @@ bounds-rows-n c =
 pub returns-then-allowed-counts-clause-some : goal.returns-then-allowed-counts-clause-some
 returns-then-allowed-counts-clause-some c leaf h k kids are =
     let whole = too_deep 0 0 (node tt k kids none) in
-    subst (λ i. BeginsWith i whole) (the_leaf c.index-rows-n.result.first leaf h)
+    subst (λ i. IsFirstOf i whole) (the_leaf c.index-rows-n.result.first leaf h)
     (spot_found c.args.rows.now c.in_ok-heights.heights.items c.in_ok-heights.ensures whole c.down.n c.down.allowed (c.down.invariant k kids are) c.index-rows-n.result c.index-rows-n.is (omega (arith, c.if-allowed-counts.true, c.weight-counts.ensures)))
 
 pub down-smaller : goal.down-smaller
