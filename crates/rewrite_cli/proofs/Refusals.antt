@@ -7,11 +7,12 @@ use Rattle.std.specs.FinMap as map
 use Rattle.std.proofs.lemmas.List.{append-nil, map-append, drop_all, take_more}
 use Rattle.std.proofs.lemmas.Bool.{cases_lt}
 use Rattle.std.proofs.lemmas.Bool.Decides.{nat_tests}
-use Rattle.rw_host.specs.Files.{Files, SameElsewhere, first_bytes, all_bytes, length-first_bytes}
+use Rattle.rw_host.specs.Files.{Files, SameElsewhere, first_bytes}
+use Rattle.rw_host.specs.FileLaws.{all_bytes, length-first_bytes}
 use Rattle.rw_base.specs.declared.leaves.TheConstants.{MOST_BYTES}
 use Rattle.rewrite_cli.specs.declared.changes.Change.{Change}
 use Rattle.rewrite_cli.specs.Paths.{is_properties}
-use Rattle.rewrite_cli.specs.Renaming.{new_bytes, is_refused, bytes_after}
+use Rattle.rewrite_cli.specs.Renaming.{accepted_renaming, is_refused, bytes_after}
 use Rattle.rewrite_cli.specs.Changes.{PathChange, change_at, is_refused_at, put_all, IsPart}
 use Rattle.rewrite_cli.specs.Pairs.{pairs}
 use Rattle.rewrite_cli.proofs.Outcomes.{too_large}
@@ -56,23 +57,23 @@ module _ (old new path : List ℕ) where
   -- ---- what becomes of a properties file
 
   module _ (bytes : List ℕ) (properties : is_properties path ≡ true) where
-    pub refused_change : None ≡ new_bytes old new bytes → change_at old new path (Some bytes) ≡ []
+    pub refused_change : None ≡ accepted_renaming old new bytes → change_at old new path (Some bytes) ≡ []
     unfolding change_at bytes_after
     refused_change e = rw (properties, ← e, same_bytes bytes) refl
 
-    pub refused_refused : None ≡ new_bytes old new bytes → is_refused_at old new path (Some bytes) ≡ true
+    pub refused_refused : None ≡ accepted_renaming old new bytes → is_refused_at old new path (Some bytes) ≡ true
     unfolding is_refused_at is_refused
     refused_refused e = rw (properties, ← e) refl
 
-    pub accepted_refused : (text : List ℕ) → Some text ≡ new_bytes old new bytes → is_refused_at old new path (Some bytes) ≡ false
+    pub accepted_refused : (text : List ℕ) → Some text ≡ accepted_renaming old new bytes → is_refused_at old new path (Some bytes) ≡ false
     unfolding is_refused_at is_refused
     accepted_refused text e = rw (properties, ← e) refl
 
-    pub kept_change : Some bytes ≡ new_bytes old new bytes → change_at old new path (Some bytes) ≡ []
+    pub kept_change : Some bytes ≡ accepted_renaming old new bytes → change_at old new path (Some bytes) ≡ []
     unfolding change_at bytes_after
     kept_change e = rw (properties, ← e, same_bytes bytes) refl
 
-    pub made_change : (text : List ℕ) → bytes_eq text bytes ≡ false → Some text ≡ new_bytes old new bytes → change_at old new path (Some bytes) ≡ (path, text) ∷ []
+    pub made_change : (text : List ℕ) → bytes_eq text bytes ≡ false → Some text ≡ accepted_renaming old new bytes → change_at old new path (Some bytes) ≡ (path, text) ∷ []
     unfolding change_at bytes_after
     made_change text other e = rw (properties, ← e, other) refl
 
@@ -81,10 +82,10 @@ module _ (old new path : List ℕ) where
   long : (bytes : List ℕ) → MOST_BYTES < length bytes → MOST_BYTES < length (first_bytes (MOST_BYTES + 1) bytes)
   long bytes lt = omega (arith, length-first_bytes (MOST_BYTES + 1) bytes)
 
-  read_new_bytes : (bytes : List ℕ) → new_bytes old new (first_bytes (MOST_BYTES + 1) bytes) ≡ new_bytes old new bytes
+  read_new_bytes : (bytes : List ℕ) → accepted_renaming old new (first_bytes (MOST_BYTES + 1) bytes) ≡ accepted_renaming old new bytes
   read_new_bytes bytes = elim (cases_lt MOST_BYTES (length bytes)) [
     | inl lt ↦ sym (too_large old new (first_bytes (MOST_BYTES + 1) bytes) (long bytes lt)) ∙ too_large old new bytes lt
-    | inr le ↦ ap (new_bytes old new) (all_bytes (MOST_BYTES + 1) bytes (omega arith))
+    | inr le ↦ ap (accepted_renaming old new) (all_bytes (MOST_BYTES + 1) bytes (omega arith))
   ]
 
   after_long : (bytes : List ℕ) → MOST_BYTES < length bytes → bytes_after old new path bytes ≡ bytes

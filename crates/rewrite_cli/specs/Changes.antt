@@ -1,5 +1,6 @@
 -- What a run makes of a store's files, and the changes that it makes one after another.
-use Rattle.std.specs.Prelude.{◌≡◌, ℕ, ◌<◌, Bool, false, ◌||◌, List, [], ◌∷◌, ◌++◌, length, take, slice_index_or, Option, None, Some, ◌⊎◌, if◌then◌else◌}
+use Rattle.std.specs.Prelude.{◌≡◌, ℕ, ◌<◌, Bool, false, ◌||◌, List, [], ◌∷◌, ◌++◌, length, take, slice_index_or}
+use Rattle.std.specs.Prelude.{Option, None, Some, ◌⊎◌, if◌then◌else◌}
 use Rattle.std.specs.Option.{option_map}
 use Rattle.std.specs.Str.{bytes_eq}
 use Rattle.std.specs.FinMap as map
@@ -8,7 +9,8 @@ use Rattle.rewrite_cli.specs.Renaming.{bytes_after, is_refused}
 
 -- Each path has what the definition gives of the file that had it. So no path comes or goes.
 unfoldable pub AreRewritten : List ℕ → List ℕ → Files → Files → Type 0
-AreRewritten old new before after = (path : List ℕ) → map.get after path ≡ option_map (bytes_after old new path) (map.get before path)
+AreRewritten old new before after =
+    (path : List ℕ) → map.get after path ≡ option_map (bytes_after old new path) (map.get before path)
 
 -- whether the file at a path is refused, and whether one of those at these paths is
 unfoldable pub is_refused_at : List ℕ → List ℕ → List ℕ → Option (List ℕ) → Bool
@@ -17,7 +19,8 @@ is_refused_at old new path (Some bytes) = is_refused old new path bytes
 
 abbrev pub any_refused : List ℕ → List ℕ → Files → List (List ℕ) → Bool
 any_refused old new files [] = false
-any_refused old new files (path ∷ paths) = is_refused_at old new path (map.get files path) || any_refused old new files paths
+any_refused old new files (path ∷ paths) =
+    is_refused_at old new path (map.get files path) || any_refused old new files paths
 
 -- whether a run refuses some file
 abbrev pub refuses_some : List ℕ → List ℕ → Files → Bool

@@ -1,5 +1,6 @@
 -- What a run makes of a file.
-use Rattle.std.specs.Prelude.{ℕ, Bool, ◌||◌, ◌&&◌, nat_lt, List, length, Option, None, Some, is_none, unwrap_or, if◌then◌else◌}
+use Rattle.std.specs.Prelude.{ℕ, Bool, ◌||◌, ◌&&◌, nat_lt, List, length, if◌then◌else◌}
+use Rattle.std.specs.Prelude.{Option, None, Some, is_none, unwrap_or}
 use Rattle.rw_base.specs.NewText.{new_text}
 use Rattle.properties_tree.specs.declared.option.PropertiesChangePropertyKey.{PropertiesChangePropertyKey}
 use Rattle.rw_base.specs.declared.leaves.TheConstants.{MOST_BYTES}
@@ -12,20 +13,20 @@ abbrev pub options_of : List ℕ → List ℕ → PropertiesChangePropertyKey
 options_of old new = record { old_property_key = old; new_property_key = new }
 
 -- the bytes of a properties file with the recipe's edits
-unfoldable pub renamed : List ℕ → List ℕ → List ℕ → List ℕ
-renamed old new bytes = new_text (tree_of bytes) bytes (edits_of bytes (options_of old new))
+unfoldable pub renaming_of : List ℕ → List ℕ → List ℕ → List ℕ
+renaming_of old new bytes = new_text (tree_of bytes) bytes (edits_of bytes (options_of old new))
 
 -- The new bytes of a properties file, none where it is refused: where it is too large, before or after.
-unfoldable pub new_bytes : List ℕ → List ℕ → List ℕ → Option (List ℕ)
-new_bytes old new bytes =
-    if nat_lt MOST_BYTES (length bytes) || nat_lt MOST_BYTES (length (renamed old new bytes))
+unfoldable pub accepted_renaming : List ℕ → List ℕ → List ℕ → Option (List ℕ)
+accepted_renaming old new bytes =
+    if nat_lt MOST_BYTES (length bytes) || nat_lt MOST_BYTES (length (renaming_of old new bytes))
     then None
-    else Some (renamed old new bytes)
+    else Some (renaming_of old new bytes)
 
 -- whether a run refuses the file of this path and these bytes
 unfoldable pub is_refused : List ℕ → List ℕ → List ℕ → List ℕ → Bool
-is_refused old new path bytes = is_properties path && is_none (new_bytes old new bytes)
+is_refused old new path bytes = is_properties path && is_none (accepted_renaming old new bytes)
 
 -- the bytes that a file has after a run: a file that is refused, or is no properties file, keeps its own
 unfoldable pub bytes_after : List ℕ → List ℕ → List ℕ → List ℕ → List ℕ
-bytes_after old new path bytes = if is_properties path then unwrap_or (new_bytes old new bytes) bytes else bytes
+bytes_after old new path bytes = if is_properties path then unwrap_or (accepted_renaming old new bytes) bytes else bytes

@@ -1,5 +1,6 @@
 // The changes of a run: found file by file, then written in the order of their paths.
-ghost use Rattle.std.specs.Prelude.{◌≡◌, ◌≢◌, ◌≤◌, ◌++◌, ◌||◌, true, false, ℕ, IsTrue, IfOk, OnOk, OnErr, Some, vec_len};
+ghost use Rattle.std.specs.Prelude.{◌≡◌, ◌≢◌, ◌≤◌, ◌++◌, ◌||◌, true, false, ℕ, IsTrue, IfOk, OnOk, OnErr, Some};
+ghost use Rattle.std.specs.Prelude.{vec_len};
 ghost use Rattle.std.specs.FinMap as map;
 ghost use Rattle.rw_host.specs.Files.{Rose};
 ghost use Rattle.rewrite_cli.specs.Paths.{is_properties};
@@ -40,8 +41,15 @@ fn note_outcome(
     options: &PropertiesChangePropertyKey,
 ) -> Result<(), StoreFault>
     requires { is_properties path ≡ true }
-    ensures changes { OnOk result (pairs found.new.changes.items ≡ pairs found.old.changes.items ++ change_at options.now.old_property_key options.now.new_property_key path (Some bytes.now)) }
-    ensures refused { OnOk result (found.new.any_refused ≡ (found.old.any_refused || is_refused_at options.now.old_property_key options.now.new_property_key path (Some bytes.now))) }
+    ensures changes { OnOk result (
+        let old = options.now.old_property_key in
+        let new = options.now.new_property_key in
+        let change = change_at old new path (Some bytes.now) in
+        pairs found.new.changes.items ≡ pairs found.old.changes.items ++ change) }
+    ensures refused { OnOk result (
+        let old = options.now.old_property_key in
+        let new = options.now.new_property_key in
+        found.new.any_refused ≡ (found.old.any_refused || is_refused_at old new path (Some bytes.now))) }
     ensures only_memory { OnErr result (result ≡ Err StoreFault.NoMemory) }
 {
     match outcome_of(alloc, bytes, options)? {
@@ -61,8 +69,16 @@ fn note_file<S: Store>(
     path: PathText,
     options: &PropertiesChangePropertyKey,
 ) -> Result<(), StoreFault>
-    ensures changes { IsTrue S.tells_files → OnOk result (pairs found.new.changes.items ≡ pairs found.old.changes.items ++ change_at options.now.old_property_key options.now.new_property_key path (map.get (S.files store.old) path)) }
-    ensures refused { IsTrue S.tells_files → OnOk result (found.new.any_refused ≡ (found.old.any_refused || is_refused_at options.now.old_property_key options.now.new_property_key path (map.get (S.files store.old) path))) }
+    ensures changes { IsTrue S.tells_files → OnOk result (
+        let old = options.now.old_property_key in
+        let new = options.now.new_property_key in
+        let change = change_at old new path (map.get (S.files store.old) path) in
+        pairs found.new.changes.items ≡ pairs found.old.changes.items ++ change) }
+    ensures refused { IsTrue S.tells_files → OnOk result (
+        let old = options.now.old_property_key in
+        let new = options.now.new_property_key in
+        let file = map.get (S.files store.old) path in
+        found.new.any_refused ≡ (found.old.any_refused || is_refused_at old new path file)) }
     ensures files { S.files store.new ≡ S.files store.old }
     ensures not_many { result ≢ Err StoreFault.TooMany }
     ensures cause { result ≡ Err StoreFault.Failed → Rose (S.read_faults store.old) (S.read_faults store.new) }
@@ -86,8 +102,14 @@ pub fn find_changes<S: Store>(
     paths: Vec<PathText>,
     options: &PropertiesChangePropertyKey,
 ) -> Result<Found, StoreFault>
-    ensures changes { IsTrue S.tells_files → IfOk result (λ found. pairs found.changes.items ≡ changes_at options.now.old_property_key options.now.new_property_key (S.files store.old) paths.items) }
-    ensures refused { IsTrue S.tells_files → IfOk result (λ found. found.any_refused ≡ any_refused options.now.old_property_key options.now.new_property_key (S.files store.old) paths.items) }
+    ensures changes { IsTrue S.tells_files → IfOk result (λ found.
+        let old = options.now.old_property_key in
+        let new = options.now.new_property_key in
+        pairs found.changes.items ≡ changes_at old new (S.files store.old) paths.items) }
+    ensures refused { IsTrue S.tells_files → IfOk result (λ found.
+        let old = options.now.old_property_key in
+        let new = options.now.new_property_key in
+        found.any_refused ≡ any_refused old new (S.files store.old) paths.items) }
     ensures files { S.files store.new ≡ S.files store.old }
     ensures not_many { result ≢ Err StoreFault.TooMany }
     ensures cause { result ≡ Err StoreFault.Failed → Rose (S.read_faults store.old) (S.read_faults store.new) }
@@ -108,7 +130,8 @@ pub fn find_changes<S: Store>(
 #[tactic(auto, using(crate::proofs::Refusals::paired))]
 pub fn write_changes<S: Store>(store: &mut S, changes: Vec<Change>) -> Result<(), Failed>
     requires { vec_len changes ≤ S.spare store.old }
-    ensures files { IsTrue S.tells_files → OnOk result (S.files store.new ≡ put_all (pairs changes.items) (S.files store.old)) }
+    ensures files { IsTrue S.tells_files →
+        OnOk result (S.files store.new ≡ put_all (pairs changes.items) (S.files store.old)) }
     ensures part { IsTrue S.tells_files → IsPart (pairs changes.items) (S.files store.old) (S.files store.new) }
     ensures cause { OnErr result (Rose (S.write_faults store.old) (S.write_faults store.new)) }
     ensures count { S.write_faults store.old ≤ S.write_faults store.new }

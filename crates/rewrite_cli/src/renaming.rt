@@ -1,7 +1,7 @@
 // What a run makes of one properties file.
 ghost use Rattle.std.specs.Prelude.{◌≡◌, IfOk};
 ghost use Rattle.std.specs.Str.{bytes_eq};
-ghost use Rattle.rewrite_cli.specs.Renaming.{new_bytes};
+ghost use Rattle.rewrite_cli.specs.Renaming.{accepted_renaming};
 ghost use Rattle.rewrite_cli.specs.Outcomes.{bytes_told, IsOther};
 
 use conf_recipes::renamed_in_properties;
@@ -33,7 +33,10 @@ pub fn outcome_of(
     bytes: &[u8],
     options: &PropertiesChangePropertyKey,
 ) -> Mem<Outcome>
-    ensures bytes { IfOk result (λ told. bytes_told told bytes.now ≡ new_bytes options.now.old_property_key options.now.new_property_key bytes.now) }
+    ensures bytes { IfOk result (λ told.
+        let old = options.now.old_property_key in
+        let new = options.now.new_property_key in
+        bytes_told told bytes.now ≡ accepted_renaming old new bytes.now) }
     ensures other { IfOk result (λ told. IsOther told bytes.now) }
 {
     if bytes.len() > MOST_BYTES {

@@ -1,5 +1,6 @@
 // The top call.
-ghost use Rattle.std.specs.Prelude.{◌≡◌, ◌≢◌, ◌≤◌, ◌<◌, ◌⊎◌, ◌↔◌, ℕ, IsTrue, true, false, IsNone, IfOk, IfSome, Some, None, Option, map as map_list, string_bytes};
+ghost use Rattle.std.specs.Prelude.{◌≡◌, ◌≢◌, ◌≤◌, ◌<◌, ◌⊎◌, ◌↔◌, ℕ, IsTrue, true, false, Some, None, Option};
+ghost use Rattle.std.specs.Prelude.{IsNone, IfOk, IfSome, map as map_list, string_bytes};
 ghost use Rattle.std.specs.Option.{option_map};
 ghost use Rattle.std.specs.FinMap as map;
 ghost use Rattle.rw_host.specs.Files.{Files, Rose};
@@ -32,10 +33,22 @@ fn status_of(fault: StoreFault) -> u8
 // Renames the key in each properties file of the store.
 #[tactic(auto, using(crate::proofs::After::ran))]
 fn run<S: Store>(alloc: Global, store: &mut S, options: &PropertiesChangePropertyKey) -> u8
-    ensures files { IsTrue S.tells_files → result ≤ 1 → AreRewritten options.now.old_property_key options.now.new_property_key (S.files store.old) (S.files store.new) }
-    ensures refused { IsTrue S.tells_files → result ≡ 1 → refuses_some options.now.old_property_key options.now.new_property_key (S.files store.old) ≡ true }
-    ensures done { IsTrue S.tells_files → result ≡ 0 → refuses_some options.now.old_property_key options.now.new_property_key (S.files store.old) ≡ false }
-    ensures part { IsTrue S.tells_files → result ≡ 5 → IsPart (changes_of options.now.old_property_key options.now.new_property_key (S.files store.old)) (S.files store.old) (S.files store.new) }
+    ensures files { IsTrue S.tells_files → result ≤ 1 →
+        let old = options.now.old_property_key in
+        let new = options.now.new_property_key in
+        AreRewritten old new (S.files store.old) (S.files store.new) }
+    ensures refused { IsTrue S.tells_files → result ≡ 1 →
+        let old = options.now.old_property_key in
+        let new = options.now.new_property_key in
+        refuses_some old new (S.files store.old) ≡ true }
+    ensures done { IsTrue S.tells_files → result ≡ 0 →
+        let old = options.now.old_property_key in
+        let new = options.now.new_property_key in
+        refuses_some old new (S.files store.old) ≡ false }
+    ensures part { IsTrue S.tells_files → result ≡ 5 →
+        let old = options.now.old_property_key in
+        let new = options.now.new_property_key in
+        IsPart (changes_of old new (S.files store.old)) (S.files store.old) (S.files store.new) }
     ensures read_fault { result ≡ 4 → Rose (S.read_faults store.old) (S.read_faults store.new) }
     ensures write_fault { result ≡ 5 → Rose (S.write_faults store.old) (S.write_faults store.new) }
     ensures past_limit { IsTrue S.tells_files → result ≡ 8 → 100000 < map.len (S.files store.old) }
@@ -127,11 +140,14 @@ pub fn rewrite<S: Store, K: Sink, G: Gate>(
     ensures unused { result ≡ 2 → store.new ≡ store.old }
 
     // After 0 or 1 each path has what the definition gives of the file that it had.
-    ensures files { IsTrue S.tells_files → result ≤ 1 → IfSome (keys_of (map_list string_bytes words.now)) (λ keys. AreRewritten keys.0 keys.1 (S.files store.old) (S.files store.new)) }
+    ensures files { IsTrue S.tells_files → result ≤ 1 → IfSome (keys_of (map_list string_bytes words.now)) (λ keys.
+        AreRewritten keys.0 keys.1 (S.files store.old) (S.files store.new)) }
 
     // 1 comes in place of 0 exactly where a properties file is refused.
-    ensures refused { IsTrue S.tells_files → result ≡ 1 → IfSome (keys_of (map_list string_bytes words.now)) (λ keys. refuses_some keys.0 keys.1 (S.files store.old) ≡ true) }
-    ensures done { IsTrue S.tells_files → result ≡ 0 → IfSome (keys_of (map_list string_bytes words.now)) (λ keys. refuses_some keys.0 keys.1 (S.files store.old) ≡ false) }
+    ensures refused { IsTrue S.tells_files → result ≡ 1 → IfSome (keys_of (map_list string_bytes words.now)) (λ keys.
+        refuses_some keys.0 keys.1 (S.files store.old) ≡ true) }
+    ensures done { IsTrue S.tells_files → result ≡ 0 → IfSome (keys_of (map_list string_bytes words.now)) (λ keys.
+        refuses_some keys.0 keys.1 (S.files store.old) ≡ false) }
 
     // 8 comes exactly where there are too many paths: no work is then done.
     ensures past_limit { IsTrue S.tells_files → result ≡ 8 → 100000 < map.len (S.files store.old) }
@@ -143,7 +159,8 @@ pub fn rewrite<S: Store, K: Sink, G: Gate>(
 
     // At 4, 6 and 8 no file has changed; at 5 the first of the changes were made.
     ensures unchanged { (result ≡ 4 ⊎ result ≡ 6 ⊎ result ≡ 8) → S.files store.new ≡ S.files store.old }
-    ensures part { IsTrue S.tells_files → result ≡ 5 → IfSome (keys_of (map_list string_bytes words.now)) (λ keys. IsPart (changes_of keys.0 keys.1 (S.files store.old)) (S.files store.old) (S.files store.new)) }
+    ensures part { IsTrue S.tells_files → result ≡ 5 → IfSome (keys_of (map_list string_bytes words.now)) (λ keys.
+        IsPart (changes_of keys.0 keys.1 (S.files store.old)) (S.files store.old) (S.files store.new)) }
 
     // Nothing else is answered, and nothing is printed.
     ensures status { IsStatus result }

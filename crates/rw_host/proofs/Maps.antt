@@ -11,7 +11,7 @@ use Rattle.std.specs.FinMap.Entries.{where_key, is_sorted-put, is_sorted-where_k
 use Rattle.rw_host.specs.declared.state.FileState.{FileState}
 use Rattle.rw_host.specs.declared.table.FileRow.{FileRow}
 use Rattle.rw_host.specs.Rows.{row_entries, are_in_order, states_of, IsPlaceOf, IsGapFor, IsPut, IsTaken, IsChanged}
-use Rattle.rw_host.specs.States.{put_some}
+use Rattle.rw_host.specs.States.{insert_some}
 use Rattle.rw_host.proofs.Order.{by_bytes, total, exact}
 use Rattle.rw_host.specs.Files.{Files, IsInOrder}
 use Rattle.rw_host.proofs.Rows.{differs_from, keys_in_order, put_place, find_place, find_gap}
@@ -78,10 +78,10 @@ pub is_changed_place : (rows : List FileRow) (path : List ℕ) (i : ℕ) (row : 
     → IsChanged rows path change (set rows i (record { path = row.path; state = change row.state }))
 is_changed_place rows path i row change sorted at is =
     let put = is_put_place rows path i row (change row.state) sorted at is in
-    record { sorted = put.sorted; states = put.states ∙ ap (λ o. put_some (states_of rows) path (option_map change o)) (sym (state_place rows path i row sorted at is)) }
+    record { sorted = put.sorted; states = put.states ∙ ap (λ o. insert_some (states_of rows) path (option_map change o)) (sym (state_place rows path i row sorted at is)) }
 
 pub is_changed_gap : (rows : List FileRow) (path : List ℕ) (i : ℕ) (change : FileState → FileState) → IsTrue (are_in_order rows) → IsGapFor rows path i → IsChanged rows path change rows
-is_changed_gap rows path i change sorted gap = record { sorted = sorted; states = ap (λ o. put_some (states_of rows) path (option_map change o)) (sym (state_gap rows path i sorted gap)) }
+is_changed_gap rows path i change sorted gap = record { sorted = sorted; states = ap (λ o. insert_some (states_of rows) path (option_map change o)) (sym (state_gap rows path i sorted gap)) }
 
 pub keys_rise : (files : Files) → IsInOrder (finmap.keys files)
 keys_rise files = keys_in_order (finmap.entries files) (is_true _ (finmap.entries_sorted files))

@@ -13,8 +13,8 @@ use Rattle.std.specs.FinMap.Entries.{below_all}
 use Rattle.std.proofs.lemmas.Bool.{both_ways}
 use Rattle.rw_host.specs.Files.{Files}
 use Rattle.rw_host.specs.declared.state.FileState.{FileState}
-use Rattle.rw_host.specs.States.{States, with_file, now_at, now_of, held, touched, marked, removed, changed_at, put_some}
-use Rattle.rw_host.specs.Table.{Given, given_states, entries_of}
+use Rattle.rw_host.specs.States.{States, file_entry, now_at, now_of, state_of_write, state_of_failed_write, state_of_failed_removal, state_of_removal, change_state, insert_some}
+use Rattle.rw_host.specs.Table.{GivenFiles, initial_states, entries_of}
 use Rattle.rw_host.proofs.Order.{by_bytes, total, exact, ties_decide}
 use Rattle.rw_host.proofs.Rows.{is_Less, left, right}
 use Rattle.rw_host.specs.declared.table.FileRow.{FileRow}
@@ -25,7 +25,7 @@ abbrev pub Entries : Type 0
 Entries = List (List ℕ × FileState)
 
 abbrev pub file_entries : Entries → List (List ℕ × List ℕ)
-file_entries es = filter_map with_file es
+file_entries es = filter_map file_entry es
 
 abbrev with_bytes : List ℕ → Option (List ℕ) → Option (List ℕ × List ℕ)
 with_bytes path bytes = option_map (λ b. (path, b)) bytes
@@ -135,11 +135,11 @@ now_kept states path s e = finmap.same_map total exact _ _ (λ q.
     ∙ under_same (eq_by_cmp by_bytes q path) s.now (finmap.get (now_of states) q) (λ tie. e ∙ sym (get_now states path) ∙ ap (finmap.get (now_of states)) (sym ((ties_decide q path).0 tie))))
 
 -- ---- what the calls do
-touched_now : (o : Option FileState) (call : ℕ) → (touched o call).now ≡ now_at o
+touched_now : (o : Option FileState) (call : ℕ) → (state_of_failed_write o call).now ≡ now_at o
 touched_now None call = refl
 touched_now (Some s) call = refl
 
-pub now_touched : (states : States) (path : List ℕ) (call : ℕ) → now_of (finmap.insert states path (touched (finmap.get states path) call)) ≡ now_of states
+pub now_touched : (states : States) (path : List ℕ) (call : ℕ) → now_of (finmap.insert states path (state_of_failed_write (finmap.get states path) call)) ≡ now_of states
 now_touched states path call = now_kept states path _ (touched_now (finmap.get states path) call)
 
 -- a path without a file is removed
@@ -148,28 +148,28 @@ absent_removed files path none = finmap.same_map total exact _ _ (λ q.
     finmap.get-remove total files path q
     ∙ under_same (eq_by_cmp by_bytes q path) None (finmap.get files q) (λ tie. sym none ∙ ap (finmap.get files) (sym ((ties_decide q path).0 tie))))
 
-removed_some : (states : States) (path : List ℕ) (call : ℕ) (o : Option FileState) → finmap.get states path ≡ o → now_of (put_some states path (option_map (λ s. removed s call) o)) ≡ finmap.remove (now_of states) path
+removed_some : (states : States) (path : List ℕ) (call : ℕ) (o : Option FileState) → finmap.get states path ≡ o → now_of (insert_some states path (option_map (λ s. state_of_removal s call) o)) ≡ finmap.remove (now_of states) path
 removed_some states path call None e = sym (absent_removed (now_of states) path (get_now states path ∙ ap now_at e))
-removed_some states path call (Some s) e = now_emptied states path (removed s call) refl
+removed_some states path call (Some s) e = now_emptied states path (state_of_removal s call) refl
 
-pub now_removed : (states : States) (path : List ℕ) (call : ℕ) → now_of (changed_at states path (λ s. removed s call)) ≡ finmap.remove (now_of states) path
+pub now_removed : (states : States) (path : List ℕ) (call : ℕ) → now_of (change_state states path (λ s. state_of_removal s call)) ≡ finmap.remove (now_of states) path
 now_removed states path call = removed_some states path call (finmap.get states path) refl
 
-marked_some : (states : States) (path : List ℕ) (call : ℕ) (o : Option FileState) → finmap.get states path ≡ o → now_of (put_some states path (option_map (λ s. marked s call) o)) ≡ now_of states
+marked_some : (states : States) (path : List ℕ) (call : ℕ) (o : Option FileState) → finmap.get states path ≡ o → now_of (insert_some states path (option_map (λ s. state_of_failed_removal s call) o)) ≡ now_of states
 marked_some states path call None e = refl
-marked_some states path call (Some s) e = now_kept states path (marked s call) (sym (ap now_at e))
+marked_some states path call (Some s) e = now_kept states path (state_of_failed_removal s call) (sym (ap now_at e))
 
-pub now_marked : (states : States) (path : List ℕ) (call : ℕ) → now_of (changed_at states path (λ s. marked s call)) ≡ now_of states
+pub now_marked : (states : States) (path : List ℕ) (call : ℕ) → now_of (change_state states path (λ s. state_of_failed_removal s call)) ≡ now_of states
 now_marked states path call = marked_some states path call (finmap.get states path) refl
 
 -- ---- the files that were handed in
 now_empty : now_of finmap.empty ≡ finmap.empty
 now_empty = finmap.same_map total exact _ _ (λ q. get_now finmap.empty q ∙ ap now_at (finmap.get-empty by_bytes q) ∙ sym (finmap.get-empty by_bytes q))
 
-pub now_given : (files : Given) → now_of (finmap.from_entries (given_states files)) ≡ finmap.from_entries (entries_of files)
+pub now_given : (files : GivenFiles) → now_of (finmap.from_entries (initial_states files)) ≡ finmap.from_entries (entries_of files)
 now_given [] = now_empty
 now_given (file ∷ files) =
-    now_put (finmap.from_entries (given_states files)) file.0 (held file.1.items 0) file.1.items refl
+    now_put (finmap.from_entries (initial_states files)) file.0 (state_of_write file.1.items 0) file.1.items refl
     ∙ ap (λ m. finmap.insert m file.0 file.1.items) (now_given files)
 
 -- ---- a walk over rows
@@ -188,7 +188,7 @@ files_more : (rows : List FileRow) (i : ℕ) (row : FileRow) → i < length rows
 files_more rows i row lt is =
     ap (λ some. map (λ e. e.0) (file_entries (row_entries some))) (take_more rows i row lt ∙ ap (λ next. take i rows ++ next ∷ []) (sym is))
     ∙ ap (λ es. map (λ e. e.0) (file_entries es)) (map-append entry_of (take i rows) (row ∷ []))
-    ∙ ap (map (λ e. e.0)) (filter_map-append with_file (row_entries (take i rows)) (entry_of row ∷ []))
+    ∙ ap (map (λ e. e.0)) (filter_map-append file_entry (row_entries (take i rows)) (entry_of row ∷ []))
     ∙ map-append (λ e. e.0) (file_entries (row_entries (take i rows))) (cons_option (with_bytes row.path row.state.now) [])
 
 pub path_more : (rows : List FileRow) (i : ℕ) (row : FileRow) → i < length rows → row ≡ get_or rows i row → is_some row.state.now ≡ true → paths_before rows (i + 1) ≡ paths_before rows i ++ row.path ∷ []

@@ -20,8 +20,8 @@ use Rattle.std.proofs.lemmas.Option.{slice_get_within, slice_get-get_or, get_or_
 use Rattle.std.proofs.lemmas.Simd.{map-map}
 use Rattle.rw_host.specs.declared.table.FileRow.{FileRow}
 use Rattle.rw_host.specs.Rows.{entry_of, row_entries, are_in_order, states_of, IsPlaceOf, IsGapFor}
-use Rattle.rw_host.specs.States.{held}
-use Rattle.rw_host.specs.Table.{Given, given_states, IsEachOnce}
+use Rattle.rw_host.specs.States.{state_of_write}
+use Rattle.rw_host.specs.Table.{GivenFiles, initial_states, IsEachOnce}
 use Rattle.rw_host.proofs.Order.{by_bytes, total, exact, greater_from_less, less_from_greater, ties_decide}
 use Rattle.rw_host.proofs.Rows.{keys_in_order, in_order_from_keys}
 use Rattle.rw_host.proofs.Maps.{states_get}
@@ -107,13 +107,13 @@ same_found None (Some v) f g = g v refl
 same_found (Some v) b f g = sym (f v refl)
 
 -- rows in order that are the given files
-pub record IsSortOf (given : Given) (rows : List FileRow) : Type 0 where
+pub record IsSortOf (given : GivenFiles) (rows : List FileRow) : Type 0 where
   pub sorted : IsTrue (are_in_order rows)
-  pub states : states_of rows ≡ finmap.from_entries (given_states given)
+  pub states : states_of rows ≡ finmap.from_entries (initial_states given)
 
-pub is_sort_of : (given : Given) (old rows : List FileRow) → row_entries old ≡ given_states given → IsPermutation old rows → IsSortedBy path_less rows → IsEachOnce given → IsSortOf given rows
+pub is_sort_of : (given : GivenFiles) (old rows : List FileRow) → row_entries old ≡ initial_states given → IsPermutation old rows → IsSortedBy path_less rows → IsEachOnce given → IsSortOf given rows
 is_sort_of given old rows same moved rising once =
-    let given_keys : map (λ e. e.0) (given_states given) ≡ map (λ file. file.0) given = map-map (λ e. e.0) (λ file. (file.0, held file.1.items 0)) given in
+    let given_keys : map (λ e. e.0) (initial_states given) ≡ map (λ file. file.0) given = map-map (λ e. e.0) (λ file. (file.0, state_of_write file.1.items 0)) given in
     let distinct : IsDistinct ties (map (λ file. file.0) given) = IsDistinct-from_AllPairs ties_decide _ once in
     let old_distinct : IsDistinct ties (map (λ e. e.0) (row_entries old)) = subst (IsDistinct ties) (sym (ap (map (λ e. e.0)) same ∙ given_keys)) distinct in
     let entries_moved = IsPermutation-map entry_of old rows moved in
@@ -125,5 +125,5 @@ is_sort_of given old rows same moved rising once =
     states_get rows q now
     ∙ same_found _ _ (found_in_both _ _ (IsPermutation-sym _ _ entries_moved) old_distinct q) (found_in_both _ _ entries_moved new_distinct q)
     ∙ ap (find by_bytes q) same
-    ∙ sym (finmap.get-from_entries total (given_states given) q) in
+    ∙ sym (finmap.get-from_entries total (initial_states given) q) in
     record { sorted = now; states = finmap.same_map total exact _ _ each }

@@ -1,6 +1,8 @@
+pub mod FileLaws
 pub mod Files
 pub mod Memory
 pub mod Path
+pub mod Room
 pub mod Rows
 pub mod Sink
 pub mod States

@@ -4,7 +4,7 @@ use Rattle.std.specs.declared.cmp.Ordering.TheVariants.{Less, Greater}
 use Rattle.std.specs.Ordering.{nat_cmp}
 use Rattle.std.specs.Cmp.Lexicographic.{slice_cmp}
 use Rattle.std.specs.FinMap as finmap
-use Rattle.rw_host.specs.States.{States, changed_at}
+use Rattle.rw_host.specs.States.{States, change_state}
 use Rattle.rw_host.specs.declared.state.FileState.{FileState}
 use Rattle.rw_host.specs.declared.table.FileRow.{FileRow}
 
@@ -32,7 +32,8 @@ pub record IsPlaceOf (rows : List FileRow) (path : List ℕ) (i : ℕ) : Type 0 
 pub record IsGapFor (rows : List FileRow) (path : List ℕ) (i : ℕ) : Type 0 where
   pub in_range : i ≤ length rows
   pub smaller_before : (j : ℕ) (d : FileRow) → j < i → slice_cmp nat_cmp (slice_index_or rows j d).path path ≡ Less
-  pub greater_after : (j : ℕ) (d : FileRow) → i ≤ j → j < length rows → slice_cmp nat_cmp (slice_index_or rows j d).path path ≡ Greater
+  pub greater_after : (j : ℕ) (d : FileRow) → i ≤ j → j < length rows
+      → slice_cmp nat_cmp (slice_index_or rows j d).path path ≡ Greater
 
 -- rows in order that say this of the path, and else what they said
 pub record IsPut (rows : List FileRow) (path : List ℕ) (state : FileState) (new : List FileRow) : Type 0 where
@@ -45,6 +46,7 @@ pub record IsTaken (rows : List FileRow) (path : List ℕ) (new : List FileRow) 
   pub states : states_of new ≡ finmap.remove (states_of rows) path
 
 -- rows in order with what is said of the path changed, where something is said
-pub record IsChanged (rows : List FileRow) (path : List ℕ) (change : FileState → FileState) (new : List FileRow) : Type 0 where
+pub record IsChanged (rows : List FileRow) (path : List ℕ) (change : FileState → FileState) (new : List FileRow)
+    : Type 0 where
   pub sorted : IsTrue (are_in_order new)
-  pub states : states_of new ≡ changed_at (states_of rows) path change
+  pub states : states_of new ≡ change_state (states_of rows) path change

@@ -13,26 +13,30 @@ abbrev pub States : Type 0
 States = finmap.FinMap (slice_cmp nat_cmp) FileState
 
 abbrev pub state_code : Coded FileState
-state_code = code_by (Option (List ℕ) × (Bool × ℕ)) (coded× (coded_option (coded_list coded_ℕ)) (coded× coded_bool coded_ℕ)) (λ s. (s.now, (s.was_held, s.changed))) (λ p. record { now = p.0; was_held = p.1.0; changed = p.1.1 }) (λ _. refl)
+state_code =
+    code_by (Option (List ℕ) × (Bool × ℕ)) (coded× (coded_option (coded_list coded_ℕ)) (coded× coded_bool coded_ℕ))
+    (λ s. (s.now, (s.was_held, s.changed)))
+    (λ p. record { now = p.0; was_held = p.1.0; changed = p.1.1 })
+    (λ _. refl)
 
 abbrev pub states_code : Coded States
 states_code = finmap.code (coded_list coded_ℕ) state_code
 
 -- a path with these bytes, put there by this call
-abbrev pub held : List ℕ → ℕ → FileState
-held bytes call = record { now = Some bytes; was_held = true; changed = call }
+abbrev pub state_of_write : List ℕ → ℕ → FileState
+state_of_write bytes call = record { now = Some bytes; was_held = true; changed = call }
 
 -- after a write that failed
-abbrev pub touched : Option FileState → ℕ → FileState
-touched None call = record { now = None; was_held = false; changed = call }
-touched (Some s) call = record { now = s.now; was_held = s.was_held; changed = call }
+abbrev pub state_of_failed_write : Option FileState → ℕ → FileState
+state_of_failed_write None call = record { now = None; was_held = false; changed = call }
+state_of_failed_write (Some s) call = record { now = s.now; was_held = s.was_held; changed = call }
 
 -- after a removal, and after one that failed: a path that was never held stays as it is
-abbrev pub removed : FileState → ℕ → FileState
-removed s call = record { now = None; was_held = s.was_held; changed = cond s.was_held call s.changed }
+abbrev pub state_of_removal : FileState → ℕ → FileState
+state_of_removal s call = record { now = None; was_held = s.was_held; changed = cond s.was_held call s.changed }
 
-abbrev pub marked : FileState → ℕ → FileState
-marked s call = record { now = s.now; was_held = s.was_held; changed = cond s.was_held call s.changed }
+abbrev pub state_of_failed_removal : FileState → ℕ → FileState
+state_of_failed_removal s call = record { now = s.now; was_held = s.was_held; changed = cond s.was_held call s.changed }
 
 -- the file of a path that may have none
 abbrev pub now_at : Option FileState → Option (List ℕ)
@@ -40,16 +44,16 @@ now_at None = None
 now_at (Some s) = s.now
 
 -- the paths that have a file, with its bytes
-abbrev pub with_file : List ℕ × FileState → Option (List ℕ × List ℕ)
-with_file e = option_map (λ bytes. (e.0, bytes)) e.1.now
+abbrev pub file_entry : List ℕ × FileState → Option (List ℕ × List ℕ)
+file_entry e = option_map (λ bytes. (e.0, bytes)) e.1.now
 
 unfoldable pub now_of : States → Files
-now_of states = finmap.from_sorted (filter_map with_file (finmap.entries states))
+now_of states = finmap.from_sorted (filter_map file_entry (finmap.entries states))
 
-abbrev pub put_some : States → List ℕ → Option FileState → States
-put_some states path None = states
-put_some states path (Some s) = finmap.insert states path s
+abbrev pub insert_some : States → List ℕ → Option FileState → States
+insert_some states path None = states
+insert_some states path (Some s) = finmap.insert states path s
 
 -- the states with one path changed, where it has one
-abbrev pub changed_at : States → List ℕ → (FileState → FileState) → States
-changed_at states path change = put_some states path (option_map change (finmap.get states path))
+abbrev pub change_state : States → List ℕ → (FileState → FileState) → States
+change_state states path change = insert_some states path (option_map change (finmap.get states path))

@@ -1,10 +1,11 @@
 // A store over a real folder.
-ghost use Rattle.std.specs.Prelude.{◌≡◌, ◌≢◌, ◌+◌, ◌≤◌, ◌-◌, false, IfOk, IfSome, OnErr, vec_len, vec_capacity};
+ghost use Rattle.std.specs.Prelude.{◌≡◌, ◌≢◌, ◌+◌, ◌≤◌, false, IfOk, IfSome, OnErr, vec_len};
 ghost use Rattle.std.specs.FinMap as map;
 ghost use Rattle.rw_host.specs.Files.{Rose};
+ghost use Rattle.rw_host.specs.Room.{room_of};
 
 use crate::full::{FullPath, folder_of};
-use crate::listing::listed;
+use crate::listing::list_below;
 use crate::path::is_path;
 use crate::unsynced::Unsynced;
 use crate::{Failed, PathText, Store, StoreFault};
@@ -24,11 +25,12 @@ const MOST_KEPT: usize = 4 * 1024 * 1024;
 ///
 /// - A text that isn't a path names no file: a read gives `None`, and a removal is `Ok`.
 /// - A folder or a file that the system doesn't give is a fault, and so is a folder where a file is read. Where the
-///   system refuses memory, `list` and `read` answer `NoMemory`, which raises no count.
+///   system refuses memory, `list`, `read` and `reserve` answer `NoMemory`, and a write, a removal or a sync fails.
 /// - A write puts the new bytes in the place of the old ones, and makes the folders that it needs. It takes no memory:
 ///   `reserve` has made the room that it needs.
-/// - `sync` syncs each file that was written and each folder in which one was written or removed since the last sync
-///   that succeeded. Files stay open until then, 64 at most: a write beyond that syncs them first.
+/// - `sync` asks the system to sync each file that was written and each folder in which one was written or removed
+///   since the last sync that succeeded. Files stay open until then, 64 at most: a write beyond that syncs them first.
+///   What outlasts a loss of power is the system's to keep, and no clause speaks of it.
 #[derive(Drop)]
 pub struct FolderStore<R: Files> {
     rt: R,
@@ -61,7 +63,7 @@ impl<R: Files> FolderStore<R> {
 }
 
 // The path of what has the name `path` in `folder`.
-pub(crate) fn joined(alloc: Global, folder: &str, path: &str) -> Result<String, AllocError> {
+pub(crate) fn join_paths(alloc: Global, folder: &str, path: &str) -> Result<String, AllocError> {
     let len = folder.len().saturating_add(path.len()).saturating_add(1);
     let mut full = String::with_capacity(alloc, len)?;
     full.push_str(folder)?;
@@ -158,7 +160,7 @@ fn overwrite<F: Write + Seek + OpenFile>(file: &mut F, bytes: &[u8]) -> io::Resu
 impl<R: Files> FolderStore<R> {
     // A file that is written in part is noted too.
     fn try_write(&mut self, path: PathText, bytes: &[u8]) -> io::Result<()>
-        ensures room { vec_capacity self.old.unsynced.written - vec_len self.old.unsynced.written ≤ vec_capacity self.new.unsynced.written - vec_len self.new.unsynced.written + 1 }
+        ensures room { room_of self.old.unsynced.written ≤ room_of self.new.unsynced.written + 1 }
         ensures reads { self.new.read_faults ≡ self.old.read_faults }
         ensures writes { self.new.write_faults ≡ self.old.write_faults }
     {
@@ -186,7 +188,7 @@ impl<R: Files> FolderStore<R> {
     }
 
     // Counts a call that failed.
-    fn counted(&mut self, done: io::Result<()>) -> Result<(), Failed>
+    fn count_fault(&mut self, done: io::Result<()>) -> Result<(), Failed>
         ensures room { self.new.unsynced ≡ self.old.unsynced }
         ensures reads { self.new.read_faults ≡ self.old.read_faults }
         ensures rose { OnErr result (Rose self.old.write_faults self.new.write_faults) }
@@ -207,14 +209,14 @@ impl<R: Files + AllocGlobal + Clone + Drop> Store for FolderStore<R> {
 
     ghost files = { λ _. map.empty };
 
-    ghost spare = { λ s. vec_capacity s.unsynced.written - vec_len s.unsynced.written };
+    ghost spare = { λ s. room_of s.unsynced.written };
 
     ghost read_faults = { λ s. s.read_faults };
 
     ghost write_faults = { λ s. s.write_faults };
 
     fn list(&mut self, alloc: Global, most: u32) -> Result<Vec<PathText>, StoreFault> {
-        let listed = listed(&self.rt, alloc, self.full.root(), most);
+        let listed = list_below(&self.rt, alloc, self.full.root(), most);
         if let Err(StoreFault::Failed) = &listed {
             self.read_faults = self.read_faults.saturating_add(1);
         }
@@ -256,16 +258,16 @@ impl<R: Files + AllocGlobal + Clone + Drop> Store for FolderStore<R> {
 
     fn write(&mut self, path: PathText, bytes: Vec<u8>) -> Result<(), Failed> {
         let done = self.try_write(path, &bytes);
-        self.counted(done)
+        self.count_fault(done)
     }
 
     fn remove(&mut self, path: &str) -> Result<(), Failed> {
         let done = self.try_remove(path);
-        self.counted(done)
+        self.count_fault(done)
     }
 
     fn sync(&mut self) -> Result<(), Failed> {
         let done = self.unsynced.sync(&self.rt, &mut self.full);
-        self.counted(done)
+        self.count_fault(done)
     }
 }

@@ -2,7 +2,7 @@
 
 /// Each piece of work that may run on its own thread enters the gate first. No result depends on it.
 pub trait Gate: Sync {
-    /// Returns once the piece may go on. Pieces count from 0.
+    /// Returns once the piece may go on. Pieces count from 1.
     fn enter(&self, piece: u32);
 }
 

@@ -1,4 +1,26 @@
-//! The edge to the outside: paths, files and their edits, the stores that hold files, and the sinks that take text.
+//! The edge to the outside: paths, the stores that hold files by them, the sinks that take text, and the gate that
+//! pieces of work enter. All that lies above is written for any `Store`, `Sink` and `Gate`, so that a contract can
+//! speak of the files before and after a run; the program hands in the real ones.
+//!
+//! ```text
+//! let mut store = FolderStore::new(rt, alloc, ".")?;
+//! let paths = store.list(alloc, 100_000)?;            // all paths below the folder, in order, each once
+//! store.reserve(1)?;                                  // room for one write, which takes no memory then
+//! store.write(path, bytes)?;                          // the whole file, in place of the one at the path
+//! store.sync()?;
+//! ```
+//!
+//! A store lists its paths in order, each once (`Store::list`, clauses `paths` and `in_order`), reads give the bytes
+//! that were written (`read`, `bytes`; `write`, `written`), a failed write or removal leaves every other path as it was
+//! (`write` and `remove`, `elsewhere`), and `Failed` is answered only where the count of that kind of call rose
+//! (`cause`, `count` and `other_count` of each call). The clauses on files hold of a store that tells them to proofs:
+//! `SteadyStore`, which never fails, and `MemoryStore`, whose calls fail exactly where it was asked to (`failed`). A
+//! real folder tells none, since others may change it. A sink has put the whole piece or a prefix of it (`Sink::put`,
+//! `whole` and `part`).
+//!
+//! Definitions, in this order: `Files` (files as a map from paths to bytes, the order of paths, a count that rose),
+//! `Path` (which texts are paths), `Sink`; for `SteadyStore` `Table`, and for `MemoryStore` `States` and `Memory`.
+//! `Rows` and `Room` serve private functions alone, and `FileLaws` has laws of `Files` for the proofs of crates above.
 #![tactic(auto)]
 
 mod fault;
@@ -25,6 +47,3 @@ pub use path::PathText;
 pub use sink::{MemorySink, Sink, StdSink};
 pub use steady::SteadyStore;
 pub use store::Store;
-
-#[cfg(test)]
-mod tests;

@@ -2,7 +2,7 @@
 ghost use Rattle.std.specs.Prelude.{◌≡◌, ◌≢◌, ◌≤◌, IsTrue, IfOk, OnOk, vec_len};
 ghost use Rattle.rw_host.specs.Files.{IsInOrder};
 
-use crate::folder::{fault_of, joined};
+use crate::folder::{fault_of, join_paths};
 use crate::path::is_path;
 use crate::{PathText, StoreFault};
 use std::alloc::{AllocError, Global};
@@ -37,7 +37,7 @@ fn below(alloc: Global, folder: &str, name: &str) -> Result<String, AllocError> 
     if folder.is_empty() {
         String::from_str(alloc, name)
     } else {
-        joined(alloc, folder, name)
+        join_paths(alloc, folder, name)
     }
 }
 
@@ -133,7 +133,7 @@ fn list_one<R: Files + AllocGlobal + Clone + Drop>(
     requires { vec_len found.old.paths ≤ most }
     ensures { OnOk result (vec_len found.new.paths ≤ most) }
 {
-    let full = joined(alloc, root, at.path.as_str())?;
+    let full = join_paths(alloc, root, at.path.as_str())?;
     let entries = match fs::read_dir(rt, full.as_str()) {
         Ok(entries) => entries,
         Err(e) => return Err(fault_of(&e)),
@@ -194,7 +194,7 @@ fn are_in_order(paths: &[PathText]) -> bool
 }
 
 // The paths of all files below the root, in order. A system that gives a name twice in one folder is a fault.
-pub(crate) fn listed<R: Files + AllocGlobal + Clone + Drop>(
+pub(crate) fn list_below<R: Files + AllocGlobal + Clone + Drop>(
     rt: &R,
     alloc: Global,
     root: &str,

@@ -1,10 +1,12 @@
 // A store in memory whose calls can be made to fail.
-ghost use Rattle.std.specs.Prelude.{◌≡◌, ◌≢◌, ◌≤◌, ◌<◌, ◌+◌, ◌↔◌, ℕ, List, true, IsTrue, IsErr, IfOk, IfSome, OnOk, OnErr, vec_len, if◌then◌else◌};
+ghost use Rattle.std.specs.Prelude.{◌≡◌, ◌≢◌, ◌≤◌, ◌<◌, ◌+◌, ◌↔◌, ℕ, List, true, vec_len};
+ghost use Rattle.std.specs.Prelude.{IsTrue, IsErr, IfOk, IfSome, OnOk, OnErr, if◌then◌else◌};
 ghost use Rattle.std.specs.Option.{option_map};
 ghost use Rattle.std.specs.FinMap as map;
 ghost use Rattle.rw_host.specs.Files.{Rose, SameElsewhere, IsInOrder, first_bytes};
-ghost use Rattle.rw_host.specs.States.{held, touched, marked, removed, changed_at, now_of};
-ghost use Rattle.rw_host.specs.Table.{IsEachOnce, entries_of, given_states};
+ghost use Rattle.rw_host.specs.States.{state_of_write, state_of_failed_write, state_of_removal};
+ghost use Rattle.rw_host.specs.States.{state_of_failed_removal, change_state, now_of};
+ghost use Rattle.rw_host.specs.Table.{IsEachOnce, entries_of, initial_states};
 ghost use Rattle.rw_host.specs.Memory.{IsNextCall, IsUnsynced, next_call, is_to_fail, count_after, stop_of};
 
 use crate::table::Table;
@@ -32,11 +34,11 @@ pub struct MemoryStore {
 }
 
 impl Model for MemoryStore {
-    ghost use Rattle.rw_host.specs.Memory.{Recorded, recorded_code};
+    ghost use Rattle.rw_host.specs.Memory.{Record, record_code};
 
-    ghost Value = { Recorded };
+    ghost Value = { Record };
 
-    ghost coded = { recorded_code };
+    ghost coded = { record_code };
 
     ghost view = { λ s. record {
       states = s.table.states;
@@ -65,7 +67,7 @@ impl MemoryStore {
     ) -> Mem<MemoryStore>
         requires each_once { IsEachOnce files.items }
         ensures files { IfOk result (λ store. now_of store.states ≡ map.from_entries (entries_of files.items)) }
-        ensures states { IfOk result (λ store. store.states ≡ map.from_entries (given_states files.items)) }
+        ensures states { IfOk result (λ store. store.states ≡ map.from_entries (initial_states files.items)) }
         ensures fail { IfOk result (λ store. store.fail ≡ fail.items) }
         ensures stop { IfOk result (λ store. store.stop ≡ stop_of stop) }
         ensures all_synced { IfOk result (λ store. (path : List ℕ) → ¬ (IsUnsynced store path)) }
@@ -161,7 +163,9 @@ impl Store for MemoryStore {
     }
 
     fn read(&mut self, alloc: Global, path: &str, most: u32) -> Result<Option<Vec<u8>>, StoreFault>
-        ensures bytes { IsTrue true → IfOk result (λ found. option_map (λ v. v.items) found ≡ option_map (first_bytes most) (map.get (now_of self.old.states) path.now)) }
+        ensures bytes { IsTrue true → IfOk result (λ found.
+            let file = map.get (now_of self.old.states) path.now in
+            option_map (λ v. v.items) found ≡ option_map (first_bytes most) file) }
         ensures at_most { IfOk result (λ found. IfSome found (λ v. vec_len v ≤ most)) }
         ensures not_many { result ≢ Err StoreFault.TooMany }
         ensures files { now_of self.new.states ≡ now_of self.old.states }
@@ -203,7 +207,8 @@ impl Store for MemoryStore {
 
     fn write(&mut self, path: PathText, bytes: Vec<u8>) -> Result<(), Failed>
         requires { 1 ≤ self.old.spare }
-        ensures written { IsTrue true → OnOk result (now_of self.new.states ≡ map.insert (now_of self.old.states) path bytes.items) }
+        ensures written { IsTrue true →
+            OnOk result (now_of self.new.states ≡ map.insert (now_of self.old.states) path bytes.items) }
         ensures elsewhere { IsTrue true → SameElsewhere path (now_of self.old.states) (now_of self.new.states) }
         ensures spare { self.old.spare ≤ self.new.spare + 1 }
         ensures cause { OnErr result (Rose self.old.write_faults self.new.write_faults) }
@@ -213,8 +218,12 @@ impl Store for MemoryStore {
         ensures faults { self.new.write_faults ≡ count_after (is_to_fail self.old) self.old.write_faults }
         ensures next { IsNextCall self.old self.new }
         ensures kept { OnErr result (now_of self.new.states ≡ now_of self.old.states) }
-        ensures states { OnOk result (self.new.states ≡ map.insert self.old.states path (held bytes.items (next_call self.old))) }
-        ensures touched { OnErr result (self.new.states ≡ map.insert self.old.states path (touched (map.get self.old.states path) (next_call self.old))) }
+        ensures states { OnOk result (
+            let state = state_of_write bytes.items (next_call self.old) in
+            self.new.states ≡ map.insert self.old.states path state) }
+        ensures failed_states { OnErr result (
+            let state = state_of_failed_write (map.get self.old.states path) (next_call self.old) in
+            self.new.states ≡ map.insert self.old.states path state) }
         ensures synced { self.new.synced ≡ self.old.synced }
         ensures unsynced { IsUnsynced self.new path }
     {
@@ -227,7 +236,8 @@ impl Store for MemoryStore {
     }
 
     fn remove(&mut self, path: &str) -> Result<(), Failed>
-        ensures removed { IsTrue true → OnOk result (now_of self.new.states ≡ map.remove (now_of self.old.states) path.now) }
+        ensures removed { IsTrue true →
+            OnOk result (now_of self.new.states ≡ map.remove (now_of self.old.states) path.now) }
         ensures elsewhere { IsTrue true → SameElsewhere path.now (now_of self.old.states) (now_of self.new.states) }
         ensures spare { self.old.spare ≤ self.new.spare }
         ensures cause { OnErr result (Rose self.old.write_faults self.new.write_faults) }
@@ -237,8 +247,10 @@ impl Store for MemoryStore {
         ensures faults { self.new.write_faults ≡ count_after (is_to_fail self.old) self.old.write_faults }
         ensures next { IsNextCall self.old self.new }
         ensures kept { OnErr result (now_of self.new.states ≡ now_of self.old.states) }
-        ensures states { OnOk result (self.new.states ≡ changed_at self.old.states path.now (λ state. removed state (next_call self.old))) }
-        ensures marked { OnErr result (self.new.states ≡ changed_at self.old.states path.now (λ state. marked state (next_call self.old))) }
+        ensures states { OnOk result (self.new.states ≡
+            change_state self.old.states path.now (λ state. state_of_removal state (next_call self.old))) }
+        ensures failed_states { OnErr result (self.new.states ≡
+            change_state self.old.states path.now (λ state. state_of_failed_removal state (next_call self.old))) }
         ensures synced { self.new.synced ≡ self.old.synced }
     {
         if self.begin() {

@@ -57,7 +57,7 @@ impl PathText {
     }
 
     // The same path again.
-    pub(crate) fn copied(&self, alloc: Global) -> Mem<PathText>
+    pub(crate) fn copy(&self, alloc: Global) -> Mem<PathText>
         ensures { IfOk result (λ copy. copy ≡ self.now) }
     {
         let text = String::from_str(alloc, self.text.as_str())?;

@@ -1,5 +1,6 @@
 // Where a text goes.
-ghost use Rattle.std.specs.Prelude.{◌≡◌, ◌≤◌, ◌<◌, ◌+◌, ◌++◌, ◌↔◌, ℕ, Bool, true, false, List, [], IsErr, IsTrue, IfOk, OnErr, OnOk, length};
+ghost use Rattle.std.specs.Prelude.{◌≡◌, ◌≤◌, ◌<◌, ◌+◌, ◌++◌, ◌↔◌, ℕ, Bool, true, false, List, [], length};
+ghost use Rattle.std.specs.Prelude.{IsErr, IsTrue, IfOk, OnErr, OnOk};
 ghost use Rattle.rw_host.specs.Files.{Rose};
 ghost use Rattle.rw_host.specs.Sink.{PutsPrefix};
 
@@ -25,7 +26,8 @@ pub trait Sink {
     /// Puts the whole piece behind what was put before. Where it fails, it has put a prefix of the piece.
     fn put(&mut self, bytes: &[u8]) -> Result<(), Failed>
         ensures whole { IsTrue tells_bytes → OnOk result (bytes_put self.new ≡ bytes_put self.old ++ bytes.now) }
-        ensures part { IsTrue tells_bytes → OnErr result (PutsPrefix (bytes_put self.old) bytes.now (bytes_put self.new)) }
+        ensures part { IsTrue tells_bytes →
+            OnErr result (PutsPrefix (bytes_put self.old) bytes.now (bytes_put self.new)) }
         ensures cause { OnErr result (Rose (faults self.old) (faults self.new)) }
         ensures count { faults self.old ≤ faults self.new };
 }

@@ -1,6 +1,6 @@
 // What a store in memory knows of a path.
 ghost use Rattle.std.specs.Prelude.{◌≡◌};
-ghost use Rattle.rw_host.specs.States.{marked, removed};
+ghost use Rattle.rw_host.specs.States.{state_of_failed_removal, state_of_removal};
 
 use rw_base::Text;
 
@@ -16,7 +16,7 @@ pub(crate) struct FileState {
 impl FileState {
     // Notes a removal that failed. A path that was never held can't come back.
     pub(crate) fn mark(&mut self, call: u32)
-        ensures { self.new ≡ marked self.old call }
+        ensures { self.new ≡ state_of_failed_removal self.old call }
     {
         if self.was_held {
             self.changed = call;
@@ -25,7 +25,7 @@ impl FileState {
 
     // Removes the file.
     pub(crate) fn remove(&mut self, call: u32)
-        ensures { self.new ≡ removed self.old call }
+        ensures { self.new ≡ state_of_removal self.old call }
     {
         self.mark(call);
         self.now = None;

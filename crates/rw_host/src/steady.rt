@@ -17,11 +17,11 @@ pub struct SteadyStore {
 }
 
 impl Model for SteadyStore {
-    ghost use Rattle.rw_host.specs.Table.{Held, held_code};
+    ghost use Rattle.rw_host.specs.Table.{Content, content_code};
 
-    ghost Value = { Held };
+    ghost Value = { Content };
 
-    ghost coded = { held_code };
+    ghost coded = { content_code };
 
     ghost use Rattle.rw_host.specs.States.{now_of};
 

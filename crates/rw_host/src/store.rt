@@ -10,9 +10,9 @@ use std::alloc::Global;
 /// Files by their paths. Not every store tells its files to proofs, as a real folder may change by itself; the
 /// clauses on files hold of a store that tells them.
 ///
-/// A call that fails raises the count of its own kind, and no call raises the other. An answer `NoMemory` raises
-/// none. After an error a store holds the files that it held before, but that the path of a `write` or `remove` which
-/// failed may hold any bytes or none.
+/// A call that answers `Failed` raises the count of its own kind, and no call raises the other. No clause says that the
+/// own count stays at another answer. After an error a store holds the files that it held before, but that the path of
+/// a `write` or `remove` which failed may hold any bytes or none.
 pub trait Store {
     /// Whether the files are told.
     ghost tells_files: { Bool };
@@ -44,7 +44,9 @@ pub trait Store {
 
     /// The first `most` bytes of the file, or `None` where no file has the path. It never answers `TooMany`.
     fn read(&mut self, alloc: Global, path: &str, most: u32) -> Result<Option<Vec<u8>>, StoreFault>
-        ensures bytes { IsTrue tells_files → IfOk result (λ found. option_map (λ v. v.items) found ≡ option_map (first_bytes most) (map.get (files self.old) path.now)) }
+        ensures bytes { IsTrue tells_files → IfOk result (λ found.
+            let file = map.get (files self.old) path.now in
+            option_map (λ v. v.items) found ≡ option_map (first_bytes most) file) }
         ensures at_most { IfOk result (λ found. IfSome found (λ v. vec_len v ≤ most)) }
         ensures not_many { result ≢ Err StoreFault.TooMany }
         ensures files { files self.new ≡ files self.old }
@@ -66,7 +68,8 @@ pub trait Store {
     /// Puts the whole file, in place of one that has the path. It uses up the room of one write at most.
     fn write(&mut self, path: PathText, bytes: Vec<u8>) -> Result<(), Failed>
         requires { 1 ≤ spare self.old }
-        ensures written { IsTrue tells_files → OnOk result (files self.new ≡ map.insert (files self.old) path bytes.items) }
+        ensures written { IsTrue tells_files →
+            OnOk result (files self.new ≡ map.insert (files self.old) path bytes.items) }
         ensures elsewhere { IsTrue tells_files → SameElsewhere path (files self.old) (files self.new) }
         ensures spare { spare self.old ≤ spare self.new + 1 }
         ensures cause { OnErr result (Rose (write_faults self.old) (write_faults self.new)) }
@@ -82,7 +85,8 @@ pub trait Store {
         ensures count { write_faults self.old ≤ write_faults self.new }
         ensures other_count { read_faults self.new ≡ read_faults self.old };
 
-    /// Makes what was written and removed outlast a crash.
+    /// Is called so that what was written and removed outlasts a crash. It changes no file, and no clause speaks of
+    /// crashes.
     fn sync(&mut self) -> Result<(), Failed>
         ensures files { files self.new ≡ files self.old }
         ensures spare { spare self.old ≤ spare self.new }

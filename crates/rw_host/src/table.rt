@@ -1,13 +1,16 @@
 // Files in memory: rows of a path and what is known of it, in the order of the paths.
-ghost use Rattle.std.specs.Prelude.{◌≡◌, ◌≢◌, ◌≤◌, ◌<◌, ◌+◌, IsTrue, IfOk, IfErr, IfSome, OnOk, length, vec_len, vec_capacity};
+ghost use Rattle.std.specs.Prelude.{◌≡◌, ◌≢◌, ◌≤◌, ◌<◌, ◌+◌, IsTrue, IfOk, IfErr, IfSome, OnOk};
+ghost use Rattle.std.specs.Prelude.{length, vec_len, vec_capacity};
 ghost use Rattle.std.specs.Option.{option_map, is_some};
 ghost use Rattle.std.specs.Ordering.{nat_cmp};
 ghost use Rattle.std.specs.Cmp.Lexicographic.{slice_cmp};
 ghost use Rattle.std.specs.FinMap as map;
 ghost use Rattle.rw_host.specs.Files.{first_bytes, IsInOrder};
-ghost use Rattle.rw_host.specs.States.{held, touched, marked, removed, changed_at, now_of};
-ghost use Rattle.rw_host.specs.Table.{IsEachOnce, given_states};
-ghost use Rattle.rw_host.specs.Rows.{row_entries, are_in_order, states_of, IsPlaceOf, IsGapFor, IsPut, IsTaken, IsChanged};
+ghost use Rattle.rw_host.specs.States.{state_of_write, state_of_failed_write, state_of_removal};
+ghost use Rattle.rw_host.specs.States.{state_of_failed_removal, change_state, now_of};
+ghost use Rattle.rw_host.specs.Table.{IsEachOnce, initial_states};
+ghost use Rattle.rw_host.specs.Rows.{row_entries, are_in_order, states_of};
+ghost use Rattle.rw_host.specs.Rows.{IsPlaceOf, IsGapFor, IsPut, IsTaken, IsChanged};
 
 use crate::state::FileState;
 use crate::{PathText, StoreFault};
@@ -32,11 +35,11 @@ pub(crate) struct Table {
 
 impl Model for Table {
     ghost use Rattle.std.specs.Prelude.{◌-◌, IsTrue, vec_len, vec_capacity};
-    ghost use Rattle.rw_host.specs.Table.{Known, known_code};
+    ghost use Rattle.rw_host.specs.Table.{Knowledge, knowledge_code};
 
-    ghost Value = { Known };
+    ghost Value = { Knowledge };
 
-    ghost coded = { known_code };
+    ghost coded = { knowledge_code };
 
     ghost use Rattle.rw_host.specs.Rows.{states_of, are_in_order};
 
@@ -59,21 +62,21 @@ fn has_file(row: &FileRow) -> bool
 }
 
 fn rows_of(alloc: Global, files: Vec<(PathText, Vec<u8>)>) -> Mem<Vec<FileRow>>
-    ensures { IfOk result (λ rows. row_entries rows.items ≡ given_states files.items) }
+    ensures { IfOk result (λ rows. row_entries rows.items ≡ initial_states files.items) }
 {
     let mut rows = Vec::with_capacity(alloc, files.len())?;
     for (path, bytes) in files {
         rows.push(FileRow {
             path,
-            state: held(bytes, 0),
+            state: state_of_write(bytes, 0),
         })?;
     }
     Ok(rows)
 }
 
 // A file with these bytes, put there by this call.
-fn held(bytes: Vec<u8>, call: u32) -> FileState
-    ensures { result ≡ held bytes.items call }
+fn state_of_write(bytes: Vec<u8>, call: u32) -> FileState
+    ensures { result ≡ state_of_write bytes.items call }
 {
     FileState {
         now: Some(Text::from_vec(bytes)),
@@ -112,7 +115,8 @@ fn put_row(rows: &mut Vec<FileRow>, row: FileRow)
 fn touch_row(rows: &mut Vec<FileRow>, path: PathText, call: u32)
     requires sorted { IsTrue (are_in_order rows.old.items) }
     requires room { vec_len rows.old < vec_capacity rows.old }
-    ensures put { IsPut rows.old.items path (touched (map.get (states_of rows.old.items) path) call) rows.new.items }
+    ensures put { let state = state_of_failed_write (map.get (states_of rows.old.items) path) call in
+        IsPut rows.old.items path state rows.new.items }
     ensures len { vec_len rows.new ≤ vec_len rows.old + 1 }
     ensures capacity { vec_capacity rows.old ≤ vec_capacity rows.new }
 {
@@ -148,7 +152,7 @@ fn take_row(rows: &mut Vec<FileRow>, path: &str)
 // Removes the file with this path, and keeps the row.
 fn empty_row(rows: &mut Vec<FileRow>, path: &str, call: u32)
     requires { IsTrue (are_in_order rows.old.items) }
-    ensures changed { IsChanged rows.old.items path.now (λ state. removed state call) rows.new.items }
+    ensures changed { IsChanged rows.old.items path.now (λ state. state_of_removal state call) rows.new.items }
     ensures len { vec_len rows.new ≤ vec_len rows.old }
     ensures capacity { vec_capacity rows.old ≤ vec_capacity rows.new }
 {
@@ -161,7 +165,7 @@ fn empty_row(rows: &mut Vec<FileRow>, path: &str, call: u32)
 // Notes a removal of this path that failed.
 fn mark_row(rows: &mut Vec<FileRow>, path: &str, call: u32)
     requires { IsTrue (are_in_order rows.old.items) }
-    ensures changed { IsChanged rows.old.items path.now (λ state. marked state call) rows.new.items }
+    ensures changed { IsChanged rows.old.items path.now (λ state. state_of_failed_removal state call) rows.new.items }
     ensures len { vec_len rows.new ≤ vec_len rows.old }
     ensures capacity { vec_capacity rows.old ≤ vec_capacity rows.new }
 {
@@ -182,7 +186,7 @@ fn first_bytes(bytes: &[u8], most: u32) -> &[u8]
 impl Table {
     pub(crate) fn new(alloc: Global, files: Vec<(PathText, Vec<u8>)>) -> Mem<Table>
         requires { IsEachOnce files.items }
-        ensures { IfOk result (λ table. table.states ≡ map.from_entries (given_states files.items)) }
+        ensures { IfOk result (λ table. table.states ≡ map.from_entries (initial_states files.items)) }
     {
         let mut rows = rows_of(alloc, files)?;
         rows.sort_unstable_by(|one, other| order_of(one, other.path.as_str()));
@@ -212,7 +216,7 @@ impl Table {
             if !has_file(row) {
                 continue;
             }
-            paths.push(row.path.copied(alloc)?)?;
+            paths.push(row.path.copy(alloc)?)?;
         }
         Ok(paths)
     }
@@ -260,7 +264,9 @@ impl Table {
         path: &str,
         most: u32,
     ) -> Result<Option<Vec<u8>>, StoreFault>
-        ensures bytes { IfOk result (λ found. option_map (λ v. v.items) found ≡ option_map (first_bytes most) (map.get (now_of self.now.states) path.now)) }
+        ensures bytes { IfOk result (λ found.
+            let file = map.get (now_of self.now.states) path.now in
+            option_map (λ v. v.items) found ≡ option_map (first_bytes most) file) }
         ensures at_most { IfOk result (λ found. IfSome found (λ v. vec_len v ≤ most)) }
         ensures not_many { result ≢ Err StoreFault.TooMany }
         ensures no_fault { result ≢ Err StoreFault.Failed }
@@ -285,17 +291,18 @@ impl Table {
     // Puts the file in place of the one that has the path, or as a new one.
     pub(crate) fn put(&mut self, path: PathText, bytes: Vec<u8>, call: u32)
         requires { 1 ≤ self.old.spare }
-        ensures states { self.new.states ≡ map.insert self.old.states path (held bytes.items call) }
+        ensures states { self.new.states ≡ map.insert self.old.states path (state_of_write bytes.items call) }
         ensures spare { self.old.spare ≤ self.new.spare + 1 }
     {
-        let state = held(bytes, call);
+        let state = state_of_write(bytes, call);
         put_row(&mut self.rows, FileRow { path, state });
     }
 
     // Notes a write of this path that failed.
     pub(crate) fn touch(&mut self, path: PathText, call: u32)
         requires { 1 ≤ self.old.spare }
-        ensures states { self.new.states ≡ map.insert self.old.states path (touched (map.get self.old.states path) call) }
+        ensures states { let state = state_of_failed_write (map.get self.old.states path) call in
+            self.new.states ≡ map.insert self.old.states path state }
         ensures spare { self.old.spare ≤ self.new.spare + 1 }
     {
         touch_row(&mut self.rows, path, call);
@@ -311,7 +318,8 @@ impl Table {
 
     // Removes the file with this path.
     pub(crate) fn empty(&mut self, path: &str, call: u32)
-        ensures states { self.new.states ≡ changed_at self.old.states path.now (λ state. removed state call) }
+        ensures states { self.new.states ≡
+            change_state self.old.states path.now (λ state. state_of_removal state call) }
         ensures spare { self.old.spare ≤ self.new.spare }
     {
         empty_row(&mut self.rows, path, call);
@@ -319,7 +327,8 @@ impl Table {
 
     // Notes a removal of this path that failed.
     pub(crate) fn mark(&mut self, path: &str, call: u32)
-        ensures states { self.new.states ≡ changed_at self.old.states path.now (λ state. marked state call) }
+        ensures states { self.new.states ≡
+            change_state self.old.states path.now (λ state. state_of_failed_removal state call) }
         ensures spare { self.old.spare ≤ self.new.spare }
     {
         mark_row(&mut self.rows, path, call);

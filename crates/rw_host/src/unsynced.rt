@@ -1,5 +1,6 @@
 // What has changed in a real folder since the last sync.
-ghost use Rattle.std.specs.Prelude.{◌≡◌, ◌+◌, ◌-◌, ◌≤◌, vec_len, vec_capacity, OnOk};
+ghost use Rattle.std.specs.Prelude.{◌≡◌, ◌+◌, ◌≤◌, OnOk};
+ghost use Rattle.rw_host.specs.Room.{room_of};
 
 use crate::PathText;
 use crate::full::{FullPath, MOST_PATH, folder_of};
@@ -27,7 +28,7 @@ pub(crate) struct Unsynced<R: Files> {
     // Files that were written, at least one in each folder.
     written: Vec<Written>,
     // The full path of the folder in which a file was removed last. Those before it are synced.
-    removed: String,
+    removal_folder: String,
 }
 
 impl<R: Files> Unsynced<R> {
@@ -35,14 +36,14 @@ impl<R: Files> Unsynced<R> {
         Ok(Unsynced {
             files: Vec::new(alloc),
             written: Vec::new(alloc),
-            removed: String::with_capacity(alloc, MOST_PATH)?,
+            removal_folder: String::with_capacity(alloc, MOST_PATH)?,
         })
     }
 
     // Makes room for this many writes.
     pub(crate) fn reserve(&mut self, writes: u32) -> Result<(), AllocError>
-        ensures room { OnOk result (writes ≤ vec_capacity self.new.written - vec_len self.new.written) }
-        ensures kept { vec_capacity self.old.written - vec_len self.old.written ≤ vec_capacity self.new.written - vec_len self.new.written }
+        ensures room { OnOk result (writes ≤ room_of self.new.written) }
+        ensures spare { room_of self.old.written ≤ room_of self.new.written }
     {
         let open = MOST_OPEN.saturating_sub(self.files.len());
         self.files.reserve(open)?;
@@ -66,7 +67,7 @@ impl<R: Files> Unsynced<R> {
         path: PathText,
         made: bool,
     ) -> Result<(), AllocError>
-        ensures { vec_capacity self.old.written - vec_len self.old.written ≤ vec_capacity self.new.written - vec_len self.new.written + 1 }
+        ensures { room_of self.old.written ≤ room_of self.new.written + 1 }
     {
         self.files.push(file)?;
         if let Some(last) = self.written.last() {
@@ -83,19 +84,19 @@ impl<R: Files> Unsynced<R> {
         ensures { self.new.written ≡ self.old.written }
     {
         let folder = folder_of(full);
-        if self.removed.as_str() != folder {
-            self.sync_removed(rt)?;
-            self.removed.push_str(folder)?;
+        if self.removal_folder.as_str() != folder {
+            self.sync_removal_folder(rt)?;
+            self.removal_folder.push_str(folder)?;
         }
         Ok(())
     }
 
     // Syncs each file and each folder, and forgets them where none fails.
     pub(crate) fn sync(&mut self, rt: &R, full: &mut FullPath) -> io::Result<()>
-        ensures { vec_capacity self.old.written - vec_len self.old.written ≤ vec_capacity self.new.written - vec_len self.new.written }
+        ensures { room_of self.old.written ≤ room_of self.new.written }
     {
         self.sync_files()?;
-        self.sync_removed(rt)?;
+        self.sync_removal_folder(rt)?;
         self.sync_folders(rt, full)?;
         self.written.clear();
         Ok(())
@@ -111,19 +112,19 @@ impl<R: Files> Unsynced<R> {
         Ok(())
     }
 
-    fn sync_removed(&mut self, rt: &R) -> io::Result<()>
+    fn sync_removal_folder(&mut self, rt: &R) -> io::Result<()>
         ensures { self.new.written ≡ self.old.written }
     {
-        if !self.removed.is_empty() {
-            sync_folder(rt, self.removed.as_str())?;
-            self.removed.clear();
+        if !self.removal_folder.is_empty() {
+            sync_folder(rt, self.removal_folder.as_str())?;
+            self.removal_folder.clear();
         }
         Ok(())
     }
 
     // Syncs each folder in which a file was written once, and those above it where folders were made.
     fn sync_folders(&mut self, rt: &R, full: &mut FullPath) -> io::Result<()>
-        ensures { vec_capacity self.old.written - vec_len self.old.written ≤ vec_capacity self.new.written - vec_len self.new.written }
+        ensures { room_of self.old.written ≤ room_of self.new.written }
     {
         self.written.sort_unstable_by(|one, other| {
             folder_of(one.path.as_str()).cmp(folder_of(other.path.as_str()))

@@ -3,7 +3,7 @@ use Rattle.rw_host.specs.declared.state.FileState.{FileState}
 use Rattle.rw_host.specs.declared.table.FileRow.{FileRow}
 use Rattle.std.specs.List.{insert}
 use Rattle.std.specs.FinMap as map
-use Rattle.rw_host.specs.States.{touched}
+use Rattle.rw_host.specs.States.{state_of_failed_write}
 use Rattle.rw_host.specs.Rows.{IsPlaceOf, IsGapFor, IsPut, states_of}
 use Rattle.rw_host.proofs.Rows.{put_gap}
 use Rattle.rw_host.proofs.Maps.{is_put, is_put_place, state_place, state_gap}
@@ -19,9 +19,9 @@ returns-in-Ok-clause-put c =
     let row = c.index_mut-row.result.now in
     let is = c.index_mut-row.ensures.value in
     let place : IsPlaceOf rows path at = rw (← c.deref.ensures.value, ← c.as_str.ensures.bytes) c.in-Ok.ensures.found in
-    let state : FileState = touched (Some row.state) call in
+    let state : FileState = state_of_failed_write (Some row.state) call in
     let new : FileRow = record { path = row.path; state = state } in
-    subst (λ o. IsPut rows path (touched o call) (set rows at new)) (sym (state_place rows path at row c.requires.sorted place is)) (is_put_place rows path at row state c.requires.sorted place is)
+    subst (λ o. IsPut rows path (state_of_failed_write o call) (set rows at new)) (sym (state_place rows path at row c.requires.sorted place is)) (is_put_place rows path at row state c.requires.sorted place is)
 
 -- a new row without a file goes into the gap
 pub returns-in-Err-clause-put : goal.returns-in-Err-clause-put
@@ -31,9 +31,9 @@ returns-in-Err-clause-put c =
     let call = c.args.call in
     let at = c.in-Err.at in
     let gap : IsGapFor rows path at = rw (← c.deref.ensures.value, ← c.as_str.ensures.bytes) c.in-Err.ensures.absent in
-    let state : FileState = touched None call in
+    let state : FileState = state_of_failed_write None call in
     let row : FileRow = record { path = path; state = state } in
     let inserted = c.insert-put.ensures.items ∙ ap (λ ok. if ok then insert rows at row else rows) (sym c.is_ok.ensures.value ∙ c.if-prove.false) in
     let put = is_put rows path state (insert rows at row) c.requires.sorted (put_gap rows row at gap) in
-    subst (IsPut rows path (touched (map.get (states_of rows) path) call)) (sym inserted)
-    (subst (λ o. IsPut rows path (touched o call) (insert rows at row)) (sym (state_gap rows path at c.requires.sorted gap)) put)
+    subst (IsPut rows path (state_of_failed_write (map.get (states_of rows) path) call)) (sym inserted)
+    (subst (λ o. IsPut rows path (state_of_failed_write o call) (insert rows at row)) (sym (state_gap rows path at c.requires.sorted gap)) put)

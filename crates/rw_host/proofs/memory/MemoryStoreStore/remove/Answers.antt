@@ -1,7 +1,8 @@
 use Rattle.std.proofs.Common.{subst, sym, ap, ◌∙◌, refl}
 use Rattle.std.specs.FinMap as map
-use Rattle.rw_host.specs.Files.{SameElsewhere, same_elsewhere-remove}
-use Rattle.rw_host.specs.States.{now_of, removed, marked}
+use Rattle.rw_host.specs.Files.{SameElsewhere}
+use Rattle.rw_host.specs.FileLaws.{same_elsewhere-remove}
+use Rattle.rw_host.specs.States.{now_of, state_of_removal, state_of_failed_removal}
 use Rattle.rw_host.specs.Memory.{AllUpTo}
 use Rattle.rw_host.proofs.Now.{now_removed, now_marked}
 use Rattle.rw_host.proofs.Calls.{up_to-changed}
@@ -37,10 +38,10 @@ pub invariant_of-self : goal.invariant_of-self
 invariant_of-self c =
     let kept = c.self.invariant in
     let n = c.self.inside.calls in
-    record { each_change = subst (AllUpTo n) (sym c.mark.ensures.states) (up_to-changed n _ c.args.path.now (λ s. marked s n) (λ s. refl) kept.each_change); last_sync = kept.last_sync; sync_early = kept.sync_early; stop_early = kept.stop_early }
+    record { each_change = subst (AllUpTo n) (sym c.mark.ensures.states) (up_to-changed n _ c.args.path.now (λ s. state_of_failed_removal s n) (λ s. refl) kept.each_change); last_sync = kept.last_sync; sync_early = kept.sync_early; stop_early = kept.stop_early }
 
 pub invariant_of-self-2 : goal.invariant_of-self-2
 invariant_of-self-2 c =
     let kept = c.self-2.invariant in
     let n = c.self-2.inside.calls in
-    record { each_change = subst (AllUpTo n) (sym c.empty.ensures.states) (up_to-changed n _ c.args.path.now (λ s. removed s n) (λ s. refl) kept.each_change); last_sync = kept.last_sync; sync_early = kept.sync_early; stop_early = kept.stop_early }
+    record { each_change = subst (AllUpTo n) (sym c.empty.ensures.states) (up_to-changed n _ c.args.path.now (λ s. state_of_removal s n) (λ s. refl) kept.each_change); last_sync = kept.last_sync; sync_early = kept.sync_early; stop_early = kept.stop_early }

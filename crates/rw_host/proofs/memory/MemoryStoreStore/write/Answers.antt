@@ -1,8 +1,9 @@
 use Rattle.std.proofs.Common.{◌<◌, refl, subst, sym, ap, ◌∙◌, arith}
 use Rattle.std.specs.Option.{IsSomeAnd}
 use Rattle.std.specs.FinMap as map
-use Rattle.rw_host.specs.Files.{SameElsewhere, same_elsewhere-insert}
-use Rattle.rw_host.specs.States.{now_of, held, touched}
+use Rattle.rw_host.specs.Files.{SameElsewhere}
+use Rattle.rw_host.specs.FileLaws.{same_elsewhere-insert}
+use Rattle.rw_host.specs.States.{now_of, state_of_write, state_of_failed_write}
 use Rattle.rw_host.specs.Memory.{AllUpTo, IsUnsynced}
 use Rattle.rw_host.proofs.Now.{now_put, now_touched}
 use Rattle.rw_host.proofs.Calls.{up_to-insert, up_to-touched, put_unsynced, touched_changed}
@@ -26,7 +27,7 @@ returns-clause-written c told =
     let bytes = c.args.bytes.items in
     let states = c.self-2.inside.table.states in
     ap now_of c.put.ensures.states
-    ∙ now_put states path (held bytes c.self-2.inside.calls) bytes refl
+    ∙ now_put states path (state_of_write bytes c.self-2.inside.calls) bytes refl
     ∙ ap (λ s. map.insert (now_of s.states) path bytes) (c.self-2.view_is ∙ c.begin.ensures.counted)
 
 pub returns-clause-elsewhere : goal.returns-clause-elsewhere
@@ -45,7 +46,7 @@ pub invariant_of-self-2 : goal.invariant_of-self-2
 invariant_of-self-2 c =
     let kept = c.self-2.invariant in
     let n = c.self-2.inside.calls in
-    record { each_change = subst (AllUpTo n) (sym c.put.ensures.states) (up_to-insert n _ c.args.path (held c.args.bytes.items n) (omega arith) kept.each_change); last_sync = kept.last_sync; sync_early = kept.sync_early; stop_early = kept.stop_early }
+    record { each_change = subst (AllUpTo n) (sym c.put.ensures.states) (up_to-insert n _ c.args.path (state_of_write c.args.bytes.items n) (omega arith) kept.each_change); last_sync = kept.last_sync; sync_early = kept.sync_early; stop_early = kept.stop_early }
 
 pub returns-then-begin-clause-unsynced : goal.returns-then-begin-clause-unsynced
 returns-then-begin-clause-unsynced c =
@@ -53,7 +54,7 @@ returns-then-begin-clause-unsynced c =
     let states = c.self.inside.table.states in
     let last = c.self.inside.synced in
     let call = c.self.inside.calls in
-    let state = touched (map.get states path) call in
+    let state = state_of_failed_write (map.get states path) call in
     let later : last < call = subst (λ s. s.synced < s.calls) (sym c.self.view_is) c.begin.ensures.later in
     let changed : last < state.changed = subst (λ n. last < n) (sym (touched_changed (map.get states path) call)) later in
     let unsynced = subst (λ new. IsSomeAnd (map.get new path) (λ s. last < s.changed)) (sym c.touch.ensures.states) (put_unsynced last states path state changed) in
@@ -66,4 +67,4 @@ returns-clause-unsynced c =
     let last = c.self-2.inside.synced in
     let call = c.self-2.inside.calls in
     let later : last < call = subst (λ s. s.synced < s.calls) (sym c.self-2.view_is) c.begin.ensures.later in
-    subst (λ new. IsSomeAnd (map.get new path) (λ s. last < s.changed)) (sym c.put.ensures.states) (put_unsynced last states path (held c.args.bytes.items call) later)
+    subst (λ new. IsSomeAnd (map.get new path) (λ s. last < s.changed)) (sym c.put.ensures.states) (put_unsynced last states path (state_of_write c.args.bytes.items call) later)

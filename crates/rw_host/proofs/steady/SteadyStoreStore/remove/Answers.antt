@@ -1,6 +1,7 @@
 use Rattle.std.proofs.Common.{subst, sym, ap, ◌∙◌}
 use Rattle.std.specs.FinMap as map
-use Rattle.rw_host.specs.Files.{SameElsewhere, same_elsewhere-remove}
+use Rattle.rw_host.specs.Files.{SameElsewhere}
+use Rattle.rw_host.specs.FileLaws.{same_elsewhere-remove}
 use Rattle.rw_host.specs.States.{now_of}
 use Rattle.rw_host.proofs.Now.{now_taken}
 use Rattle.rw_host.proofs.steady.SteadyStoreStore.remove.Goals as goal

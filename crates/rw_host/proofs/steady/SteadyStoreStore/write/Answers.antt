@@ -1,7 +1,8 @@
 use Rattle.std.proofs.Common.{subst, sym, ap, ◌∙◌, refl}
 use Rattle.std.specs.FinMap as map
-use Rattle.rw_host.specs.Files.{SameElsewhere, same_elsewhere-insert}
-use Rattle.rw_host.specs.States.{now_of, held}
+use Rattle.rw_host.specs.Files.{SameElsewhere}
+use Rattle.rw_host.specs.FileLaws.{same_elsewhere-insert}
+use Rattle.rw_host.specs.States.{now_of, state_of_write}
 use Rattle.rw_host.proofs.Now.{now_put}
 use Rattle.rw_host.proofs.steady.SteadyStoreStore.write.Goals as goal
 
@@ -9,7 +10,7 @@ pub returns-clause-written : goal.returns-clause-written
 returns-clause-written c told =
     let path = c.args.path in
     let bytes = c.args.bytes.items in
-    ap now_of c.put.ensures.states ∙ now_put _ path (held bytes 0) bytes refl ∙ ap (λ known. map.insert known.files path bytes) c.self.view_is
+    ap now_of c.put.ensures.states ∙ now_put _ path (state_of_write bytes 0) bytes refl ∙ ap (λ known. map.insert known.files path bytes) c.self.view_is
 
 pub returns-clause-elsewhere : goal.returns-clause-elsewhere
 returns-clause-elsewhere c told =

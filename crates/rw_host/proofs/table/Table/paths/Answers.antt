@@ -18,7 +18,7 @@ loop-row-preserved c =
     let i = c.loop-row.row-index in
     let row = c.row-item.result in
     let more = path_more rows i row (omega arith) c.row-item.is (sym c.has_file.ensures ∙ c.if-not-has_file.false) in
-    c.in_ok-push.ensures.items ∙ rw (c.loop-row.invariant, c.in_ok-copied.ensures) (sym more)
+    c.in_ok-push.ensures.items ∙ rw (c.loop-row.invariant, c.in_ok-copy.ensures) (sym more)
 
 -- all paths
 pub returns : goal.returns
