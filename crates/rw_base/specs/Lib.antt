@@ -3,6 +3,7 @@ pub mod Heads
 pub mod KeptNodes
 pub mod Trees
 pub mod Rows
+pub mod RowLaws
 pub mod Laid
 pub mod LaidLaws
 pub mod LaidTrees
@@ -20,4 +21,3 @@ pub mod Expressions
 pub mod Fronts
 pub mod Tasks
 pub mod Laws
-pub mod Calls
