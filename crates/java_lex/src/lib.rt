@@ -10,9 +10,11 @@ mod leaves;
 mod piece;
 mod slots;
 mod table;
-#[cfg(test)]
-mod tests;
 mod word;
 
-pub use laws::{cut_alike, cut_anywhere, cut_behind, leaves_are_one, leaves_tile};
+pub use laws::{
+    classes_differ, cut_alike, cut_anywhere, cut_behind, cut_together, leaves_are_one, leaves_are_there,
+    leaves_tile,
+};
 pub use leaves::java_leaves;
+pub use word::is_identifier;
