@@ -14,7 +14,8 @@ use Rattle.java_lex.specs.Literals.{literal_refused, comment_refused}
 use Rattle.java_lex.specs.Kinds.{IsLeaf, word, other}
 use Rattle.java_lex.specs.Blanks.{IsComment, line, block, IsBlockComment}
 use Rattle.java_lex.specs.Leaves.{Cuts, passed, leaf, ended, stopped, IsBlank, white, comment, IsNextLeaf, IsBad, broken_end, in_comment, open_comment, in_literal, open_literal, no_leaf, IsBadOpen, never_closed, escaped, cut_off, AreJavaLeaves, utf8_front, is_broken, mark_size}
-use Rattle.java_lex.specs.Tiles.{ends_at, AreTiles}
+use Rattle.rw_base.specs.Cut.{ends_at}
+use Rattle.java_lex.specs.Tiles.{AreTiles}
 use Rattle.java_lex.proofs.Best.{start-empty}
 use Rattle.java_lex.proofs.Pieces.{no-empty-word, refused-inside, refused-front}
 use Rattle.java_lex.proofs.Cutting.{mark-inside}
@@ -191,11 +192,13 @@ tiles bytes leaves bad c =
     let size = length-take-le (utf8_valid_len bytes) bytes (utf8_valid_len_le bytes) in
     let fits = utf8_valid_len_le bytes in
     record {
-      tile = r.tile;
-      ends = r.ends ∙ same;
-      inside = subst (λ n. n ≤ length bytes) same (let h = r.inside in omega (arith, length-drop at text));
-      some = r.some;
+      cut = record {
+        tile = r.tile;
+        ends = r.ends ∙ same;
+        inside = subst (λ n. n ≤ length bytes) same (let h = r.inside in omega (arith, length-drop at text));
+        some = r.some;
+        empty_end = r.empty_end;
+      };
       few = let h = r.few in omega (arith, length-drop at text);
-      empty_end = r.empty_end;
       end_class = r.end_class;
     }

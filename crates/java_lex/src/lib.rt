@@ -3,8 +3,7 @@
 //!
 //! ```text
 //! let Leaves { leaves, bad } = java_leaves(alloc, b"int x;")?;
-//! // the classes PRIM, ID, SEMICOLON and END, and no bad place
-//! assert(is_identifier(b"x") && !is_identifier(b"int"));
+//! // four leaves, of the classes PRIM, ID, SEMICOLON and END, and no bad place
 //! ```
 //!
 //! The leaves and the bad place are those of the definition `AreJavaLeaves` (clause `leaves` of `java_leaves`): each
@@ -16,9 +15,9 @@
 //! distinct numbers (`classes_differ`).
 //!
 //! The definitions in specs/, in this order: `Numbers`, `Literals`, `Signs` and `Words` are the lexical grammar, over
-//! the expressions of `rw_base`, and `Kinds` gives each text its class. `Blanks` has white space and comments, `Escapes`
-//! those that are refused. `Leaves` cuts a text and a file by these. `Tiles`, `Laws` and `Classes` are the words of the
-//! laws. `Scanning` is of the small functions alone, and no public clause cites it.
+//! the expressions of `rw_base`, and `Kinds` gives each text its class. `Blanks` has white space and comments, and
+//! `Escapes` the escapes that are refused. `Leaves` cuts a text and a file by these. `Tiles`, `Laws` and `Classes` are
+//! the words of the laws. `Scanning` is of the small functions alone, and no public clause cites it.
 #![tactic(auto)]
 
 mod automaton;
