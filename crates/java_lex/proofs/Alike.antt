@@ -8,7 +8,7 @@ use Rattle.std.specs.Str.{encode_utf8_all}
 use Rattle.std.proofs.lemmas.Str.{encode_ascii}
 use Rattle.rw_base.specs.Expressions.{Expression}
 use Rattle.java_lex.specs.Kinds.{IsLeaf, word, other, Fits, kinds}
-use Rattle.java_lex.specs.Words.{IsWord, AllGoOn, begins_word, goes_on}
+use Rattle.java_lex.specs.Words.{IsWord, AllContinue, begins_word, continues_word}
 use Rattle.java_lex.specs.Blanks.{is_white, begins_comment, is_line_end, IsComment, line, block, IsLineComment, IsBlockComment}
 use Rattle.java_lex.specs.Literals.{literal_refused, comment_refused}
 use Rattle.java_lex.specs.Escapes.{NoneRefused}
@@ -17,7 +17,7 @@ use Rattle.rw_base.specs.declared.tree.Leaf.{Leaf}
 use Rattle.rw_base.specs.declared.leaves.Bad.{Bad}
 use Rattle.java_lex.proofs.Tiling.{blank-inside, next-some}
 use Rattle.java_lex.specs.Scanning.{known, next_state, state_class}
-use Rattle.java_lex.specs.Laws.{AreBytes, is_alone, BeginsWith, IsAloneAt}
+use Rattle.java_lex.specs.Laws.{AreBytes, is_alone, LeavesBeginWith, IsAloneAt}
 use Rattle.java_lex.proofs.Derivatives.{step, after}
 use Rattle.java_lex.proofs.States.{all_from, meaning, leaf_is, dead_is}
 use Rattle.java_lex.proofs.Runs.{at_all, after-to, next-right, next-inside, class-none}
@@ -138,7 +138,7 @@ after-append (b ∷ x) y ks = after-append x y (step b ks)
 data Plain (b : ℕ) : Type 0 where
   wide_byte : 128 ≤ b → Plain b
   begins : begins_word b ≡ true → Plain b
-  goes : goes_on b ≡ true → Plain b
+  goes : continues_word b ≡ true → Plain b
 
 abbrev AllPlain : List ℕ → Type 0
 AllPlain [] = Unit {0}
@@ -173,7 +173,7 @@ letter-plain c p = elim (cases_lt c 128) [
   | inr wide ↦ high-encode c wide
 ]
 
-goes-plain : (cs : List ℕ) → AllGoOn cs → AllPlain (encode_utf8_all cs)
+goes-plain : (cs : List ℕ) → AllContinue cs → AllPlain (encode_utf8_all cs)
 goes-plain [] h = tt
 goes-plain (c ∷ cs) h = plain-append (encode_utf8 c) (encode_utf8_all cs) (letter-plain c (goes h.0.passes)) (goes-plain cs h.1)
 
@@ -190,8 +190,8 @@ alone-not_plain : (c : ℕ) → is_alone c ≡ true → Plain c → ⊥
 alone-not_plain c is (wide_byte h) = alone-cases (λ k. 128 ≤ k → ⊥) (λ x. omega arith) (λ x. omega arith) (λ x. omega arith) c is h
 alone-not_plain c is (begins h) = alone-cases (λ k. begins_word k ≡ true → ⊥)
     (table-not (begins_word 59) _ (begins-table 59 (omega arith)) refl) (table-not (begins_word 123) _ (begins-table 123 (omega arith)) refl) (table-not (begins_word 125) _ (begins-table 125 (omega arith)) refl) c is h
-alone-not_plain c is (goes h) = alone-cases (λ k. goes_on k ≡ true → ⊥)
-    (table-not (goes_on 59) _ (goes-table 59 (omega arith)) refl) (table-not (goes_on 123) _ (goes-table 123 (omega arith)) refl) (table-not (goes_on 125) _ (goes-table 125 (omega arith)) refl) c is h
+alone-not_plain c is (goes h) = alone-cases (λ k. continues_word k ≡ true → ⊥)
+    (table-not (continues_word 59) _ (goes-table 59 (omega arith)) refl) (table-not (continues_word 123) _ (goes-table 123 (omega arith)) refl) (table-not (continues_word 125) _ (goes-table 125 (omega arith)) refl) c is h
 
 -- ---- no leaf goes over such a character
 
@@ -298,7 +298,7 @@ comment-agree : (s t : List ℕ) (n m : ℕ) → Agree s t n → m < n → IsCom
 comment-agree s t n m h less (line c) = line (line-agree s t n m h less c)
 comment-agree s t n m h less (block c) = block (block-agree s t n m h less c)
 
-blank-agree : (s t : List ℕ) (n m : ℕ) → Agree s t n → m < n → IsBlank s m → IsBlank t m
+pub blank-agree : (s t : List ℕ) (n m : ℕ) → Agree s t n → m < n → IsBlank s m → IsBlank t m
 blank-agree s t n m h less (white some is one) =
     white (let i = h.other_inside in omega arith) (ap (λ b. is_white b) (sym (agree-at s t n 0 h (omega arith))) ∙ is) one
 blank-agree s t n m h less (comment is none) =
@@ -344,7 +344,7 @@ alone-no_longer t j k bytes some low high is (word w e) = word-not_over t j 0 (s
 alone-no_longer t j k bytes some low high is (other h) = alone-no_fit t j k bytes low high is h
 
 -- a leaf before such a character is one in any text that goes on otherwise behind the character
-leaf-agree : (s t : List ℕ) (n class m : ℕ) → AreBytes t → Agree s t n → m < n → 0 < m → is_alone (get_or s (n - 1) 0) ≡ true
+pub leaf-agree : (s t : List ℕ) (n class m : ℕ) → AreBytes t → Agree s t n → m < n → 0 < m → is_alone (get_or s (n - 1) 0) ≡ true
     → IsNextLeaf s class m → IsNextLeaf t class m
 leaf-agree s t n class m bytes h less some alone next =
     let front = agree-front s t n m h (omega arith) in
@@ -365,7 +365,7 @@ leaf-agree s t n class m bytes h less some alone next =
     }
 
 -- and so is such a character itself
-alone-agree : (s t : List ℕ) (class : ℕ) → AreBytes t → Agree s t 1 → is_alone (get_or s 0 0) ≡ true → IsNextLeaf s class 1 → IsNextLeaf t class 1
+pub alone-agree : (s t : List ℕ) (class : ℕ) → AreBytes t → Agree s t 1 → is_alone (get_or s 0 0) ≡ true → IsNextLeaf s class 1 → IsNextLeaf t class 1
 alone-agree s t class bytes h alone next =
     let first = agree-at s t 1 0 h (omega arith) in
     let alone_here : is_alone (get_or t 0 0) ≡ true = ap (λ b. is_alone b) (sym first) ∙ alone in
@@ -439,7 +439,7 @@ stands broken from at s ls front more l a (stopped n cause h) e one =
 
 -- the second cut takes the same step where the first passes something over
 pass-alike : (second : Bool) (from at : ℕ) (t : List ℕ) (front ms : List Leaf) (l : Leaf) (b : Option Bad) (n : ℕ) → AreBytes t → IsBlank t n
-    → ((ns : List Leaf) → Cuts second from (at + n) (drop n t) ns b → BeginsWith ns front l) → Cuts second from at t ms b → BeginsWith ms front l
+    → ((ns : List Leaf) → Cuts second from (at + n) (drop n t) ns b → LeavesBeginWith ns front l) → Cuts second from at t ms b → LeavesBeginWith ms front l
 pass-alike second from at t front ms l b n bytes blank further (passed m other_blank d) =
     let e = blank-one second t n m bytes blank other_blank in
     further ms (subst (λ k. Cuts second from (at + k) (drop k t) ms b) (sym e) d)
@@ -458,7 +458,7 @@ leaf-alike second from at t ms b class n bytes next (leaf {leaves = others} j m 
 leaf-alike second from at t ms b class n bytes next (ended e x) = absurd (leaf-not_end second t class n bytes next e x)
 leaf-alike second from at t ms b class n bytes next (stopped m cause h) = absurd (leaf-not_bad second t class n m cause bytes next h)
 
-place-is : (at n k : ℕ) → at + n ≤ k → n + (k - (at + n)) ≡ k - at
+pub place-is : (at n k : ℕ) → at + n ≤ k → n + (k - (at + n)) ≡ k - at
 place-is at n k h = omega arith
 
 minus-is : (at n k : ℕ) → at + n ≤ k → (k - at) - n ≡ k - (at + n)
@@ -467,20 +467,20 @@ minus-is at n k h = omega arith
 minus-low : (at n k : ℕ) → at + n ≤ k → n ≤ k - at
 minus-low at n k h = omega arith
 
-weaker-to : (at n f k : ℕ) → at + n ≤ f → k ≡ f + 1 → at + n ≤ k
+pub weaker-to : (at n f k : ℕ) → at + n ≤ f → k ≡ f + 1 → at + n ≤ k
 weaker-to at n f k h e = omega arith
 
-last-is : (at n f k : ℕ) → at + n ≤ f → k ≡ f + 1 → (k - at) - 1 ≡ f - at
+pub last-is : (at n f k : ℕ) → at + n ≤ f → k ≡ f + 1 → (k - at) - 1 ≡ f - at
 last-is at n f k h e = omega arith
 
 front-inside : (n : ℕ) (s t : List ℕ) → n ≤ length s → length (take n s) ≡ length (take n t) → n ≤ length t
 front-inside n s t h e = omega (arith, length-take-le n s h, length-take n t)
 
 -- a character behind the first bytes
-alone-drop : (s : List ℕ) (at n k : ℕ) → at + n ≤ k → is_alone (get_or s (k - at) 0) ≡ true → is_alone (get_or (drop n s) (k - (at + n)) 0) ≡ true
+pub alone-drop : (s : List ℕ) (at n k : ℕ) → at + n ≤ k → is_alone (get_or s (k - at) 0) ≡ true → is_alone (get_or (drop n s) (k - (at + n)) 0) ≡ true
 alone-drop s at n k h is = ap (λ b. is_alone b) (get_or-drop n s (k - (at + n)) 0 ∙ ap (λ i. get_or s i 0) (place-is at n k h)) ∙ is
 
-agree-rest : (s t : List ℕ) (at n k : ℕ) → at + n ≤ k → Agree s t (k - at) → Agree (drop n s) (drop n t) (k - (at + n))
+pub agree-rest : (s t : List ℕ) (at n k : ℕ) → at + n ≤ k → Agree s t (k - at) → Agree (drop n s) (drop n t) (k - (at + n))
 agree-rest s t at n k h agree = subst (λ i. Agree (drop n s) (drop n t) i) (minus-is at n k h) (agree-drop s t (k - at) n agree (minus-low at n k h))
 
 here-list : (ms front : List Leaf) (x l : Leaf) (ns : List Leaf) → ms ≡ x ∷ ns → x ≡ l → front ≡ [] → ms ≡ front ++ l ∷ ns
@@ -491,9 +491,9 @@ later-list ms front fs x l ns rest e f g = e ∙ ap (λ y. x ∷ y) f ∙ ap (λ
 
 here-alike : (second : Bool) (from at : ℕ) (s t : List ℕ) (front more leaves ms : List Leaf) (l : Leaf) (b : Option Bad) (class n : ℕ) → AreBytes t → IsNextLeaf s class n
     → l.to ≡ l.from + 1 → is_alone (get_or s (l.from - at) 0) ≡ true → Agree s t (l.to - at)
-    → ((fs ns : List Leaf) → leaves ≡ fs ++ l ∷ more → Cuts second (at + n) (at + n) (drop n t) ns b → BeginsWith ns fs l)
+    → ((fs ns : List Leaf) → leaves ≡ fs ++ l ∷ more → Cuts second (at + n) (at + n) (drop n t) ns b → LeavesBeginWith ns fs l)
     → ((fs : List Leaf) → leaves ≡ fs ++ l ∷ more → at + n ≤ l.from)
-    → Cuts second from at t ms b → Cut (leaf_record from at (at + n) class) leaves front l more → BeginsWith ms front l
+    → Cuts second from at t ms b → Cut (leaf_record from at (at + n) class) leaves front l more → LeavesBeginWith ms front l
 here-alike second from at s t front more leaves ms l b class n bytes next one alone agree further low d (here e is rest) =
     let to_is : at + n ≡ l.to = ap (λ (x : Leaf). x.to) is in
     let from_is : at ≡ l.from = ap (λ (x : Leaf). x.from) is in
@@ -518,7 +518,7 @@ here-alike second from at s t front more leaves ms l b class n bytes next one al
 
 pub alike : (broken second : Bool) (from at : ℕ) (s t : List ℕ) (ls front more ms : List Leaf) (l : Leaf) (a b : Option Bad) → AreBytes t
     → Cuts broken from at s ls a → ls ≡ front ++ l ∷ more → l.to ≡ l.from + 1 → is_alone (get_or s (l.from - at) 0) ≡ true
-    → Agree s t (l.to - at) → Cuts second from at t ms b → BeginsWith ms front l
+    → Agree s t (l.to - at) → Cuts second from at t ms b → LeavesBeginWith ms front l
 alike broken second from at s t ls front more ms l a b bytes (passed n blank c) e one alone agree d =
     let r = stands broken from (at + n) (drop n s) ls front more l a c e one in
     let behind = r.low in
@@ -542,7 +542,7 @@ alike broken second from at s t ls front more ms l a b bytes (stopped n cause h)
 -- the same of texts that agree on their first bytes alone
 pub cut-alike : (broken second : Bool) (from at : ℕ) (s t : List ℕ) (front more ms : List Leaf) (l : Leaf) (a b : Option Bad) → AreBytes t
     → Cuts broken from at s (front ++ l ∷ more) a → IsAloneAt at s l → take (l.to - at) s ≡ take (l.to - at) t → Cuts second from at t ms b
-    → BeginsWith ms front l
+    → LeavesBeginWith ms front l
 cut-alike broken second from at s t front more ms l a b bytes c alone same d =
     let r = stands broken from at s (front ++ l ∷ more) front more l a c refl alone.one in
     let inside : l.to - at ≤ length s = let i = r.high in omega arith in

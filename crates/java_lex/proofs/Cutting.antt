@@ -10,7 +10,7 @@ use Rattle.rw_base.specs.declared.place.Cause.{Cause}
 use Rattle.rw_base.specs.declared.leaves.Bad.{Bad}
 use Rattle.java_lex.specs.declared.class.TheConstants.{END}
 use Rattle.java_lex.specs.Blanks.{is_white}
-use Rattle.java_lex.specs.Leaves.{Cuts, passed, leaf, ended, stopped, IsBlank, white, IsNextLeaf, IsBad, end_leaf, AreLeaves, text_of, is_broken, mark_size}
+use Rattle.java_lex.specs.Leaves.{Cuts, passed, leaf, ended, stopped, IsBlank, white, IsNextLeaf, IsBad, end_leaf, AreJavaLeaves, utf8_front, is_broken, mark_size}
 use Rattle.java_lex.specs.Scanning.{IsWhite}
 use Rattle.java_lex.proofs.Following.{either-true}
 
@@ -18,7 +18,7 @@ use Rattle.java_lex.proofs.Following.{either-true}
 pub record IsSoFar (bytes text : List ℕ) (broken : Bool) (leaves : List Leaf) (from at : ℕ) : Type 0 where
   pub order : from ≤ at
   pub inside : at ≤ length text
-  pub rest : (more : List Leaf) (bad : Option Bad) → Cuts broken from at (drop at text) more bad → AreLeaves bytes (leaves ++ more) bad
+  pub rest : (more : List Leaf) (bad : Option Bad) → Cuts broken from at (drop at text) more bad → AreJavaLeaves bytes (leaves ++ more) bad
 
 one-more : (at w : ℕ) → at + suc w ≡ (at + 1) + w
 one-more at w = omega arith
@@ -91,7 +91,7 @@ past-leaf bytes text broken leaves after from at class n l h found is pushed =
       order = ≤-same (at + n);
       inside = plus-inside at n (length text) h.inside (subst (λ k. n ≤ k) (length-drop at text) next.longest.inside);
       rest = λ more bad cuts.
-          subst (λ ls. AreLeaves bytes ls bad) (sym (joined leaves after more l (record { prefix_from = from; from = at; to = at + n; class = class }) is pushed))
+          subst (λ ls. AreJavaLeaves bytes ls bad) (sym (joined leaves after more l (record { prefix_from = from; from = at; to = at + n; class = class }) is pushed))
           (h.rest (record { prefix_from = from; from = at; to = at + n; class = class } ∷ more) bad
           (leaf class n next (subst (λ t. Cuts broken (at + n) (at + n) t more bad) (sym (drop-drop n at text)) cuts)));
     }
@@ -105,18 +105,18 @@ end-is from at l e = e ∙ ap (λ (n : ℕ). end_record from at n) (plus-zero at
 -- a bad place
 pub at-bad : (bytes text : List ℕ) (broken : Bool) (leaves after : List Leaf) (from at n : ℕ) (cause : Cause) (l : Leaf) → IsSoFar bytes text broken leaves from at
     → IsBad broken (take (length text - at) (drop at text)) n cause × (n ≤ length (take (length text - at) (drop at text)))
-    → l ≡ end_leaf from (at + n) → after ≡ leaves ++ l ∷ [] → AreLeaves bytes after (Some (record { byte = at + n; cause = cause }))
+    → l ≡ end_leaf from (at + n) → after ≡ leaves ++ l ∷ [] → AreJavaLeaves bytes after (Some (record { byte = at + n; cause = cause }))
 at-bad bytes text broken leaves after from at n cause l h found is pushed =
     let bad_here = subst (λ t. IsBad broken t n cause) (take_rest text at) found.0 in
-    subst (λ ls. AreLeaves bytes ls (Some (record { byte = at + n; cause = cause }))) (sym (pushed ∙ ap (λ x. leaves ++ x ∷ []) is))
+    subst (λ ls. AreJavaLeaves bytes ls (Some (record { byte = at + n; cause = cause }))) (sym (pushed ∙ ap (λ x. leaves ++ x ∷ []) is))
     (h.rest (end_leaf from (at + n) ∷ []) (Some (record { byte = at + n; cause = cause })) (stopped n cause bad_here))
 
 -- the end
 pub at-end : (bytes text : List ℕ) (broken : Bool) (leaves after : List Leaf) (from at : ℕ) (l : Leaf) → IsSoFar bytes text broken leaves from at
     → (take (length text - at) (drop at text) ≡ []) × (broken ≡ false)
-    → l ≡ end_leaf from at → after ≡ leaves ++ l ∷ [] → AreLeaves bytes after None
+    → l ≡ end_leaf from at → after ≡ leaves ++ l ∷ [] → AreJavaLeaves bytes after None
 at-end bytes text broken leaves after from at l h found is pushed =
-    subst (λ ls. AreLeaves bytes ls None) (sym (pushed ∙ ap (λ x. leaves ++ x ∷ []) is))
+    subst (λ ls. AreJavaLeaves bytes ls None) (sym (pushed ∙ ap (λ x. leaves ++ x ∷ []) is))
     (h.rest (end_leaf from at ∷ []) None (ended (sym (take_rest text at) ∙ found.0) found.1))
 
 mark-cond : (v : Bool) (n : ℕ) → (v ≡ true → 3 ≤ n) → cond v 3 0 ≤ n
@@ -136,9 +136,9 @@ mark-inside s = mark-cond _ (length s) (λ e.
     third-inside s (cases_lt 2 (length s)) third)
 
 -- the beginning
-pub at-start : (bytes text : List ℕ) (broken : Bool) (leaves : List Leaf) (at : ℕ) → text ≡ text_of bytes → broken ≡ ltb (length text) (length bytes)
+pub at-start : (bytes text : List ℕ) (broken : Bool) (leaves : List Leaf) (at : ℕ) → text ≡ utf8_front bytes → broken ≡ ltb (length text) (length bytes)
     → leaves ≡ [] → at ≡ mark_size text → IsSoFar bytes text broken leaves 0 at
-unfolding AreLeaves
+unfolding AreJavaLeaves
 at-start bytes text broken leaves at text_is broken_is none at_is =
     let n_is : length text ≡ utf8_valid_len bytes = ap length text_is ∙ length-take-le (utf8_valid_len bytes) bytes (utf8_valid_len_le bytes) in
     let broken_here : broken ≡ is_broken bytes = broken_is ∙ ap (λ n. ltb n (length bytes)) n_is in
@@ -146,7 +146,7 @@ at-start bytes text broken leaves at text_is broken_is none at_is =
       order = omega arith;
       inside = subst (λ n. n ≤ length text) (sym at_is) (mark-inside text);
       rest = λ more bad cuts.
-          subst (λ ls. Cuts (is_broken bytes) 0 (mark_size (text_of bytes)) (drop (mark_size (text_of bytes)) (text_of bytes)) ls bad) (sym (ap (λ ls. ls ++ more) none))
+          subst (λ ls. Cuts (is_broken bytes) 0 (mark_size (utf8_front bytes)) (drop (mark_size (utf8_front bytes)) (utf8_front bytes)) ls bad) (sym (ap (λ ls. ls ++ more) none))
           (subst (λ t. Cuts (is_broken bytes) 0 (mark_size t) (drop (mark_size t) t) more bad) text_is
           (subst (λ n. Cuts (is_broken bytes) 0 n (drop n text) more bad) at_is
           (subst (λ b. Cuts b 0 at (drop at text) more bad) broken_here cuts)));

@@ -5,10 +5,10 @@ use Rattle.std.proofs.lemmas.Slice.Eq.{bytes_eq-Decides}
 use Rattle.std.specs.Str.{bytes_eq}
 use Rattle.std.specs.Char.{is_ascii_alphabetic, is_ascii_alphanumeric}
 use Rattle.unicode_ident.proofs.IdentLemmas.{is_xid_start-ascii, is_xid_continue-ascii}
-use Rattle.java_lex.specs.declared.word.TheConstants.{BEGINS, GOES_ON}
+use Rattle.java_lex.specs.declared.word.TheConstants.{BEGINS, CONTINUES}
 use Rattle.java_lex.specs.declared.class.TheConstants.{ID}
 use Rattle.java_lex.specs.declared.slots.TheConstants.{LETTER_COUNT}
-use Rattle.java_lex.specs.Words.{begins_word, goes_on, keywords, class_among, word_class}
+use Rattle.java_lex.specs.Words.{begins_word, continues_word, keywords, class_among, word_class}
 use Rattle.java_lex.specs.Scanning.{slot_of, slot_word, slot_class}
 use Rattle.java_lex.proofs.Following.{either-true}
 use Rattle.java_lex.proofs.States.{all_from}
@@ -17,7 +17,7 @@ use Rattle.java_lex.proofs.Runs.{at_all}
 begins_right : all_from 128 0 (λ b. eqb (get_or BEGINS b 0) (cond (is_ascii_alphabetic b || eqb b 95 || eqb b 36) 1 0)) ≡ true
 begins_right = refl
 
-goes_right : all_from 128 0 (λ b. eqb (get_or GOES_ON b 0) (cond (is_ascii_alphanumeric b || eqb b 95 || eqb b 95 || eqb b 36) 1 0)) ≡ true
+goes_right : all_from 128 0 (λ b. eqb (get_or CONTINUES b 0) (cond (is_ascii_alphanumeric b || eqb b 95 || eqb b 95 || eqb b 36) 1 0)) ≡ true
 goes_right = refl
 
 eqb-is : (m n : ℕ) → eqb m n ≡ true → m ≡ n
@@ -28,9 +28,9 @@ begins-table b h =
     eqb-is _ _ (at_all 128 0 (λ k. eqb (get_or BEGINS k 0) (cond (is_ascii_alphabetic k || eqb k 95 || eqb k 36) 1 0)) begins_right b (omega arith) (omega arith))
     ∙ ap (λ v. cond (v || eqb b 95 || eqb b 36) 1 0) (sym (is_xid_start-ascii b h))
 
-pub goes-table : (b : ℕ) → b < 128 → get_or GOES_ON b 0 ≡ cond (goes_on b) 1 0
+pub goes-table : (b : ℕ) → b < 128 → get_or CONTINUES b 0 ≡ cond (continues_word b) 1 0
 goes-table b h =
-    eqb-is _ _ (at_all 128 0 (λ k. eqb (get_or GOES_ON k 0) (cond (is_ascii_alphanumeric k || eqb k 95 || eqb k 95 || eqb k 36) 1 0)) goes_right b (omega arith) (omega arith))
+    eqb-is _ _ (at_all 128 0 (λ k. eqb (get_or CONTINUES k 0) (cond (is_ascii_alphanumeric k || eqb k 95 || eqb k 95 || eqb k 36) 1 0)) goes_right b (omega arith) (omega arith))
     ∙ ap (λ v. cond (v || eqb b 95 || eqb b 36) 1 0) (sym (is_xid_continue-ascii b h))
 
 -- ---- the words that aren't identifiers

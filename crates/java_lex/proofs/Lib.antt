@@ -12,3 +12,7 @@ pub mod Tiling
 pub mod Steps
 pub mod Alike
 pub mod Moving
+pub mod Joining
+pub mod Identifying
+pub mod Numbering
+pub mod Existing

@@ -4,7 +4,7 @@ use Rattle.std.proofs.lemmas.List.{drop-drop}
 use Rattle.rw_base.specs.declared.tree.Leaf.{Leaf}
 use Rattle.rw_base.specs.declared.leaves.Bad.{Bad}
 use Rattle.java_lex.specs.Leaves.{Cuts, passed, leaf, ended, stopped, end_leaf}
-use Rattle.java_lex.specs.Laws.{moved, bad_moved}
+use Rattle.java_lex.specs.Laws.{offset_leaves, offset_bad}
 use Rattle.java_lex.proofs.Steps.{leaf_record, bad_record}
 use Rattle.java_lex.proofs.Alike.{Cut, here, later, cut-list, not-end, stands}
 
@@ -12,13 +12,13 @@ plus-moved : (at n by : ℕ) → (at + n) + by ≡ (at + by) + n
 plus-moved at n by = omega arith
 
 pub cut-moved : (by : ℕ) (broken : Bool) (from at : ℕ) (s : List ℕ) (ls : List Leaf) (a : Option Bad) → Cuts broken from at s ls a
-    → Cuts broken (from + by) (at + by) s (moved by ls) (bad_moved by a)
+    → Cuts broken (from + by) (at + by) s (offset_leaves by ls) (offset_bad by a)
 cut-moved by broken from at s ls a (passed n blank c) =
-    passed n blank (subst (λ k. Cuts broken (from + by) k (drop n s) (moved by ls) (bad_moved by a)) (plus-moved at n by) (cut-moved by broken from (at + n) (drop n s) ls a c))
+    passed n blank (subst (λ k. Cuts broken (from + by) k (drop n s) (offset_leaves by ls) (offset_bad by a)) (plus-moved at n by) (cut-moved by broken from (at + n) (drop n s) ls a c))
 cut-moved by broken from at s ls a (leaf {leaves = leaves} class n next c) =
-    subst (λ k. Cuts broken (from + by) (at + by) s (leaf_record (from + by) (at + by) k class ∷ moved by leaves) (bad_moved by a)) (sym (plus-moved at n by))
+    subst (λ k. Cuts broken (from + by) (at + by) s (leaf_record (from + by) (at + by) k class ∷ offset_leaves by leaves) (offset_bad by a)) (sym (plus-moved at n by))
     (leaf class n next
-    (subst (λ k. Cuts broken k k (drop n s) (moved by leaves) (bad_moved by a)) (plus-moved at n by) (cut-moved by broken (at + n) (at + n) (drop n s) leaves a c)))
+    (subst (λ k. Cuts broken k k (drop n s) (offset_leaves by leaves) (offset_bad by a)) (plus-moved at n by) (cut-moved by broken (at + n) (at + n) (drop n s) leaves a c)))
 cut-moved by broken from at s ls a (ended e b) = ended e b
 cut-moved by broken from at s ls a (stopped n cause h) =
     subst (λ k. Cuts broken (from + by) (at + by) s (end_leaf (from + by) k ∷ []) (Some (bad_record k cause))) (sym (plus-moved at n by)) (stopped n cause h)

@@ -14,7 +14,7 @@ use Rattle.java_lex.specs.Kinds.{IsLeaf, word, other, Fits, kinds, is_literal}
 use Rattle.java_lex.specs.Words.{IsWord}
 use Rattle.java_lex.specs.Escapes.{IsFirstRefused, NoneRefused}
 use Rattle.java_lex.specs.Blanks.{is_white, begins_line_comment, begins_block_comment, line, block, IsLineComment, IsBlockComment, IsOpenComment}
-use Rattle.java_lex.specs.Leaves.{Cuts, passed, leaf, ended, stopped, IsBlank, white, comment, IsLongest, IsLeafPlace, BeginsNone, CanGoOn, IsNextLeaf, IsBad, broken_end, in_comment, open_comment, in_literal, open_literal, no_leaf, IsBadOpen, never_closed, escaped, cut_off, end_leaf, AreLeaves, text_of, is_broken, mark_size}
+use Rattle.java_lex.specs.Leaves.{Cuts, passed, leaf, ended, stopped, IsBlank, white, comment, IsLongest, IsLeafPlace, BeginsNone, CanGoOn, IsNextLeaf, IsBad, broken_end, in_comment, open_comment, in_literal, open_literal, no_leaf, IsBadOpen, never_closed, escaped, cut_off, end_leaf, AreJavaLeaves, utf8_front, is_broken, mark_size}
 use Rattle.std.specs.Str.Lossy.{utf8_valid_len}
 use Rattle.java_lex.specs.Scanning.{known, next_state}
 use Rattle.java_lex.specs.Laws.{AreBytes}
@@ -498,8 +498,8 @@ cuts-same broken from at s ls ms a b bytes (stopped m c h) (stopped n d g) =
     let f = bad-cause_one broken s m n c d bytes h g in
     (ap (λ x. end_leaf from (at + x) ∷ []) e, ap (λ x. Some x) (bad-is at m n c d e f))
 
-pub leaves-same : (bytes : List ℕ) (ls ms : List Leaf) (a b : Option Bad) → AreBytes bytes → AreLeaves bytes ls a → AreLeaves bytes ms b → Same ls ms a b
-unfolding AreLeaves
+pub leaves-same : (bytes : List ℕ) (ls ms : List Leaf) (a b : Option Bad) → AreBytes bytes → AreJavaLeaves bytes ls a → AreJavaLeaves bytes ms b → Same ls ms a b
+unfolding AreJavaLeaves
 leaves-same bytes ls ms a b are f g =
-    cuts-same (is_broken bytes) 0 (mark_size (text_of bytes)) (drop (mark_size (text_of bytes)) (text_of bytes)) ls ms a b
-    (bytes-drop (mark_size (text_of bytes)) (text_of bytes) (bytes-take (utf8_valid_len bytes) bytes are)) f g
+    cuts-same (is_broken bytes) 0 (mark_size (utf8_front bytes)) (drop (mark_size (utf8_front bytes)) (utf8_front bytes)) ls ms a b
+    (bytes-drop (mark_size (utf8_front bytes)) (utf8_front bytes) (bytes-take (utf8_valid_len bytes) bytes are)) f g

@@ -13,8 +13,9 @@ use Rattle.rw_base.specs.declared.leaves.Bad.{Bad}
 use Rattle.java_lex.specs.Literals.{literal_refused, comment_refused}
 use Rattle.java_lex.specs.Kinds.{IsLeaf, word, other}
 use Rattle.java_lex.specs.Blanks.{IsComment, line, block, IsBlockComment}
-use Rattle.java_lex.specs.Leaves.{Cuts, passed, leaf, ended, stopped, IsBlank, white, comment, IsNextLeaf, IsBad, broken_end, in_comment, open_comment, in_literal, open_literal, no_leaf, IsBadOpen, never_closed, escaped, cut_off, AreLeaves, text_of, is_broken, mark_size}
-use Rattle.java_lex.specs.Laws.{ends_at, AreTiles}
+use Rattle.java_lex.specs.Leaves.{Cuts, passed, leaf, ended, stopped, IsBlank, white, comment, IsNextLeaf, IsBad, broken_end, in_comment, open_comment, in_literal, open_literal, no_leaf, IsBadOpen, never_closed, escaped, cut_off, AreJavaLeaves, utf8_front, is_broken, mark_size}
+use Rattle.rw_base.specs.Cut.{ends_at}
+use Rattle.java_lex.specs.Tiles.{AreTiles}
 use Rattle.java_lex.proofs.Best.{start-empty}
 use Rattle.java_lex.proofs.Pieces.{no-empty-word, refused-inside, refused-front}
 use Rattle.java_lex.proofs.Cutting.{mark-inside}
@@ -172,18 +173,18 @@ not-less : (a b : ℕ) → a ≤ b → ltb a b ≡ false → a ≡ b
 not-less a b h e = grind (arith, nat_tests)
 
 -- where the leaves of the text end is where those of the file do
-file-stop : (bytes : List ℕ) (at : ℕ) (bad : Option Bad) → at ≤ length (text_of bytes) → (bad ≡ None → is_broken bytes ≡ false)
-    → stop at (drop at (text_of bytes)) bad ≡ ends_at bytes bad
+file-stop : (bytes : List ℕ) (at : ℕ) (bad : Option Bad) → at ≤ length (utf8_front bytes) → (bad ≡ None → is_broken bytes ≡ false)
+    → stop at (drop at (utf8_front bytes)) bad ≡ ends_at bytes bad
 file-stop bytes at None h whole =
     let n = utf8_valid_len bytes in
     let same = not-less n (length bytes) (utf8_valid_len_le bytes) (whole refl) in
     omega (arith, length-drop at (take n bytes), length-take-le n bytes (utf8_valid_len_le bytes))
 file-stop bytes at (Some bad) h whole = refl
 
-pub tiles : (bytes : List ℕ) (leaves : List Leaf) (bad : Option Bad) → AreLeaves bytes leaves bad → AreTiles bytes leaves bad
-unfolding AreLeaves
+pub tiles : (bytes : List ℕ) (leaves : List Leaf) (bad : Option Bad) → AreJavaLeaves bytes leaves bad → AreTiles bytes leaves bad
+unfolding AreJavaLeaves
 tiles bytes leaves bad c =
-    let text = text_of bytes in
+    let text = utf8_front bytes in
     let at = mark_size text in
     let inside = mark-inside text in
     let r = tiled (is_broken bytes) 0 at (drop at text) leaves bad c (omega arith) in
@@ -191,11 +192,13 @@ tiles bytes leaves bad c =
     let size = length-take-le (utf8_valid_len bytes) bytes (utf8_valid_len_le bytes) in
     let fits = utf8_valid_len_le bytes in
     record {
-      tile = r.tile;
-      ends = r.ends ∙ same;
-      inside = subst (λ n. n ≤ length bytes) same (let h = r.inside in omega (arith, length-drop at text));
-      some = r.some;
+      cut = record {
+        tile = r.tile;
+        ends = r.ends ∙ same;
+        inside = subst (λ n. n ≤ length bytes) same (let h = r.inside in omega (arith, length-drop at text));
+        some = r.some;
+        empty_end = r.empty_end;
+      };
       few = let h = r.few in omega (arith, length-drop at text);
-      empty_end = r.empty_end;
       end_class = r.end_class;
     }

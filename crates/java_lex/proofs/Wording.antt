@@ -12,7 +12,7 @@ use Rattle.bstr.specs.Utf8.{decoded, Decoded}
 use Rattle.bstr.proofs.lemmas.SoundLemmas.{SpellsChar-decoded}
 use Rattle.bstr.proofs.lemmas.EncodeLemmas.{decoded-encode}
 use Rattle.unicode_ident.specs.Ident.{is_xid_start, is_xid_continue}
-use Rattle.java_lex.specs.Words.{IsWord, IsLetter, AllGoOn, begins_word, goes_on}
+use Rattle.java_lex.specs.Words.{IsWord, IsLetter, AllContinue, begins_word, continues_word}
 use Rattle.java_lex.specs.Scanning.{IsFirstSize, IsWordSize}
 
 true-not_false : (v : Bool) → v ≡ true → v ≡ false → ⊥
@@ -24,7 +24,7 @@ some-not_none d e = cc
 low-scalar : (b : ℕ) → b < 128 → IsScalar b
 low-scalar b h = low_scalar b (omega arith)
 
-all-push : (cs : List ℕ) (c : ℕ) → AllGoOn cs → IsLetter goes_on c → AllGoOn (cs ++ c ∷ [])
+all-push : (cs : List ℕ) (c : ℕ) → AllContinue cs → IsLetter continues_word c → AllContinue (cs ++ c ∷ [])
 all-push [] c h letter = (letter, tt)
 all-push (d ∷ cs) c h letter = (h.0, all-push cs c h.1 letter)
 
@@ -32,7 +32,7 @@ all-push (d ∷ cs) c h letter = (h.0, all-push cs c h.1 letter)
 pub record AreParts (s : List ℕ) : Type 0 where
   pub chars : List ℕ
   pub is : s ≡ encode_utf8_all chars
-  pub goes : AllGoOn chars
+  pub goes : AllContinue chars
 
 -- The first `at` bytes are a word, and `size` is of the character that goes on with it, or 0.
 pub record IsGrown (s : List ℕ) (at size : ℕ) : Type 0 where
@@ -40,7 +40,7 @@ pub record IsGrown (s : List ℕ) (at size : ℕ) : Type 0 where
   pub inside : at ≤ length s
   pub word : IsWord (take at s)
   pub rest : (m : ℕ) → at ≤ m → IsWord (take m s) → AreParts (take (m - at) (drop at s))
-  pub next : IsFirstSize goes_on (drop at s) size
+  pub next : IsFirstSize continues_word (drop at s) size
 
 -- ---- the first character
 
@@ -97,7 +97,7 @@ begins-either false c h = grind (arith, nat_tests)
 pub wide-begins : (c : ℕ) → 128 ≤ c → begins_word c ≡ is_xid_start c
 wide-begins c h = begins-either (is_xid_start c) c h
 
-pub wide-goes : (c : ℕ) → 128 ≤ c → goes_on c ≡ is_xid_continue c
+pub wide-goes : (c : ℕ) → 128 ≤ c → continues_word c ≡ is_xid_continue c
 wide-goes c h = begins-either (is_xid_continue c) c h
 
 pub ascii-first : (p : ℕ → Bool) (s : List ℕ) (b n : ℕ) → 0 < length s → b ≡ get_or s 0 0 → b < 128 → n ≡ cond (p b) 1 0 → IsFirstSize p s n
@@ -133,7 +133,7 @@ ascii-first p s b n some is low size = go (p b) refl
 -- ---- words
 
 -- a longer word
-word-push : (s : List ℕ) (c : ℕ) → IsWord s → IsLetter goes_on c → IsWord (s ++ encode_utf8 c)
+word-push : (s : List ℕ) (c : ℕ) → IsWord s → IsLetter continues_word c → IsWord (s ++ encode_utf8 c)
 word-push s c w letter = record {
   first = w.first;
   others = w.others ++ c ∷ [];
@@ -175,7 +175,7 @@ pub begins-with : (s : List ℕ) (m d : ℕ) (ds : List ℕ) → take m s ≡ en
 begins-with s m d ds e =
     sym (take-append-drop m s) ∙ ap (λ x. x ++ drop m s) e ∙ append_assoc (encode_utf8 d) (encode_utf8_all ds) (drop m s)
 
-pub grown-init : (s : List ℕ) (at size : ℕ) → IsFirstSize begins_word s at → (at ≡ 0 → ⊥) → IsFirstSize goes_on (drop at s) size → IsGrown s at size
+pub grown-init : (s : List ℕ) (at size : ℕ) → IsFirstSize begins_word s at → (at ≡ 0 → ⊥) → IsFirstSize continues_word (drop at s) size → IsGrown s at size
 grown-init s at size first not_zero next =
     let some : 0 < at = omega arith in
     let w = first.some some in
@@ -204,13 +204,13 @@ less-minus a b m h = omega arith
 parts-after : (r : List ℕ) (c z m : ℕ) → r ≡ encode_utf8 c ++ drop z r → length (encode_utf8 c) ≡ z → z ≤ m → AreParts (take m r) → AreParts (take (m - z) (drop z r))
 parts-after r c z m whole width h p = go p.chars p.is p.goes
   where
-    go : (chars : List ℕ) → take m r ≡ encode_utf8_all chars → AllGoOn chars → AreParts (take (m - z) (drop z r))
+    go : (chars : List ℕ) → take m r ≡ encode_utf8_all chars → AllContinue chars → AreParts (take (m - z) (drop z r))
     go [] e goes = absurd (let w = encode-some c in
         let f : [] ≡ encode_utf8 c ++ take (m - z) (drop z r) = sym e ∙ cut-front r c z m whole width h in
         omega (arith, ap length f, length-append (encode_utf8 c) (take (m - z) (drop z r))))
     go (d ∷ ds) e goes = record { chars = ds; is = peel r c z m d ds whole width h e; goes = goes.1 }
 
-pub grown-more : (s : List ℕ) (at size next : ℕ) → IsGrown s at size → 0 < size → IsFirstSize goes_on (drop (at + size) s) next → IsGrown s (at + size) next
+pub grown-more : (s : List ℕ) (at size next : ℕ) → IsGrown s at size → 0 < size → IsFirstSize continues_word (drop (at + size) s) next → IsGrown s (at + size) next
 grown-more s at size next h some first =
     let w = h.next.some some in
     let c = w.0 in
@@ -235,7 +235,7 @@ grown-end s at size h ends = record {
   longest = λ m low high v. let p = h.rest m (weaker at m low) v in go m low high p.chars p.is p.goes;
 }
   where
-    go : (m : ℕ) → at < m → m ≤ length s → (chars : List ℕ) → take (m - at) (drop at s) ≡ encode_utf8_all chars → AllGoOn chars → ⊥
+    go : (m : ℕ) → at < m → m ≤ length s → (chars : List ℕ) → take (m - at) (drop at s) ≡ encode_utf8_all chars → AllContinue chars → ⊥
     go m low high [] e goes = omega (arith, ap length e, length-take-le (m - at) (drop at s) (omega (arith, length-drop at s)))
     go m low high (d ∷ ds) e goes =
         h.next.none (omega arith) d (encode_utf8_all ds ++ drop (m - at) (drop at s)) (begins-with (drop at s) (m - at) d ds e) goes.0

@@ -1,6 +1,7 @@
 -- A text cut into leaves, up to the end or the first bad place. At each place white space and comments come first, and
 -- then the longest leaf of those that begin there.
-use Rattle.std.specs.Prelude.{◌≡◌, ℕ, ◌+◌, ◌<◌, ◌≤◌, ◌==◌, ◌&&◌, Bool, true, false, nat_lt, List, [], ◌∷◌, ◌++◌, length, take, drop, slice_index, Option, Some, None, if◌then◌else◌}
+use Rattle.std.specs.Prelude.{◌≡◌, ℕ, ◌+◌, ◌<◌, ◌≤◌, ◌==◌, ◌&&◌, Bool, true, false, nat_lt, List, [], ◌∷◌, ◌++◌, length}
+use Rattle.std.specs.Prelude.{take, drop, slice_index, Option, Some, None, if◌then◌else◌}
 use Rattle.std.specs.Str.Lossy.{utf8_valid_len}
 use Rattle.rw_base.specs.declared.tree.Leaf.{Leaf}
 use Rattle.rw_base.specs.declared.place.Cause.{Cause}
@@ -44,8 +45,9 @@ pub record IsNextLeaf (s : List ℕ) (class n : ℕ) : Type 0 where
   pub longest : IsLongest s class n
   pub accepted : is_literal class ≡ true → NoneRefused literal_refused (take n s)
 
--- Where it is bad at byte n that a comment or literal is still open at the text's end. It is bad at its start, but where
--- bytes that aren't UTF-8 follow, it counts as open, and is bad at its first escape that is refused or at those bytes.
+-- Where it is bad at byte n that a comment or literal is still open at the text's end. It is bad at its start, but
+-- where bytes that aren't UTF-8 follow, it counts as open, and is bad at its first escape that is refused or at those
+-- bytes.
 pub data IsBadOpen (broken : Bool) (escape : Expression) (s : List ℕ) (n : ℕ) (cause : Cause) : Type 0 where
   never_closed : broken ≡ false → n ≡ 0 → cause ≡ BadLeaf → IsBadOpen broken escape s n cause
   escaped : broken ≡ true → IsFirstRefused escape s n → cause ≡ BadLeaf → IsBadOpen broken escape s n cause
@@ -56,14 +58,16 @@ pub data IsBad (broken : Bool) (s : List ℕ) (n : ℕ) (cause : Cause) : Type 0
   -- the text ends, and bytes that aren't UTF-8 follow
   broken_end : s ≡ [] → broken ≡ true → n ≡ 0 → cause ≡ NotUtf8 → IsBad broken s n cause
   -- an escape that is refused stands in a comment
-  in_comment : (size : ℕ) → IsComment s size → IsFirstRefused comment_refused (take size s) n → cause ≡ BadLeaf → IsBad broken s n cause
+  in_comment : (size : ℕ) → IsComment s size → IsFirstRefused comment_refused (take size s) n → cause ≡ BadLeaf
+      → IsBad broken s n cause
   -- a comment isn't closed
   open_comment : IsOpenComment s → IsBadOpen broken comment_refused s n cause → IsBad broken s n cause
   -- an escape that is refused stands in a literal
   in_literal : (class size : ℕ) → IsLeafPlace s → IsLongest s class size → is_literal class ≡ true
       → IsFirstRefused literal_refused (take size s) n → cause ≡ BadLeaf → IsBad broken s n cause
   -- a literal isn't closed
-  open_literal : IsLeafPlace s → BeginsNone s → CanGoOn s → IsBadOpen broken literal_refused s n cause → IsBad broken s n cause
+  open_literal : IsLeafPlace s → BeginsNone s → CanGoOn s → IsBadOpen broken literal_refused s n cause
+      → IsBad broken s n cause
   -- no leaf begins here
   no_leaf : IsLeafPlace s → BeginsNone s → (CanGoOn s → ⊥) → n ≡ 0 → cause ≡ BadLeaf → IsBad broken s n cause
 
@@ -86,8 +90,8 @@ pub data Cuts (broken : Bool) : ℕ → ℕ → List ℕ → List Leaf → Optio
 -- ---- whole files
 
 -- the longest front that is UTF-8
-abbrev pub text_of : List ℕ → List ℕ
-text_of bytes = take (utf8_valid_len bytes) bytes
+abbrev pub utf8_front : List ℕ → List ℕ
+utf8_front bytes = take (utf8_valid_len bytes) bytes
 
 -- bytes follow it that aren't
 abbrev pub is_broken : List ℕ → Bool
@@ -98,6 +102,8 @@ abbrev pub mark_size : List ℕ → ℕ
 mark_size s = if (slice_index s 0 == 239) && (slice_index s 1 == 187) && (slice_index s 2 == 191) then 3 else 0
 
 -- These are the leaves of a file, up to its first bad place.
-unfoldable pub AreLeaves : List ℕ → List Leaf → Option Bad → Type 0
-AreLeaves bytes leaves bad =
-    Cuts (is_broken bytes) 0 (mark_size (text_of bytes)) (drop (mark_size (text_of bytes)) (text_of bytes)) leaves bad
+unfoldable pub AreJavaLeaves : List ℕ → List Leaf → Option Bad → Type 0
+AreJavaLeaves bytes leaves bad =
+    let text = utf8_front bytes in
+    let mark = mark_size text in
+    Cuts (is_broken bytes) 0 mark (drop mark text) leaves bad

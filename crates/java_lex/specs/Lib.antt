@@ -7,4 +7,6 @@ pub mod Escapes
 pub mod Blanks
 pub mod Leaves
 pub mod Scanning
+pub mod Tiles
 pub mod Laws
+pub mod Classes

@@ -42,7 +42,8 @@ string_literal = byte 34 34 >> many (character 34 <|> escape) >> byte 34 34
 unfoldable pub literal_refused : Expression
 literal_refused =
     backslash >> us >> text (codes "00")
-    >> (text (codes "22") <|> text (codes "27") <|> text (codes "5") >> one_of (codes "cC") <|> text (codes "0") >> one_of (codes "aAdD"))
+    >> (text (codes "22") <|> text (codes "27") <|> text (codes "5") >> one_of (codes "cC")
+    <|> text (codes "0") >> one_of (codes "aAdD"))
 
 -- in a comment those of `*`, `/`, LF and CR
 unfoldable pub comment_refused : Expression

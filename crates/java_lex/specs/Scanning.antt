@@ -1,5 +1,6 @@
 -- What the small functions of the scanner give.
-use Rattle.std.specs.Prelude.{◌≡◌, ℕ, ◌+◌, ◌*◌, ◌-◌, ◌%◌, ◌<◌, ◌≤◌, ◌⊎◌, ◌==◌, Bool, true, false, List, [], ◌∷◌, ◌++◌, length, take, drop, slice_index, slice_index_or, encode_utf8, if◌then◌else◌}
+use Rattle.std.specs.Prelude.{◌≡◌, ℕ, ◌+◌, ◌*◌, ◌-◌, ◌%◌, ◌<◌, ◌≤◌, ◌⊎◌, ◌==◌, Bool, true, false, List, [], ◌∷◌, ◌++◌}
+use Rattle.std.specs.Prelude.{length, take, drop, slice_index, slice_index_or, encode_utf8, if◌then◌else◌}
 use Rattle.java_lex.specs.declared.automaton.Found.{Found}
 use Rattle.java_lex.specs.declared.piece.Piece.{Piece}
 use Rattle.java_lex.specs.declared.piece.Piece.TheVariants as piece

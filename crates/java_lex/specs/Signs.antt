@@ -1,6 +1,14 @@
--- Separators and operators (JLS 3.11, 3.12), with `@`, `->` and `::`. The shifts to the right are none: `>>` is two leaves.
+-- Separators and operators (JLS 3.11, 3.12), with `@`, `->` and `::`. The shifts to the right are none: `>>` is two
+-- leaves.
 use Rattle.std.specs.Prelude.{ℕ, List, [], ◌∷◌, codes}
-use Rattle.java_lex.specs.declared.class.TheConstants.{PAREN_OPEN, PAREN_CLOSE, BRACE_OPEN, BRACE_CLOSE, BRACKET_OPEN, BRACKET_CLOSE, SEMICOLON, COMMA, DOT, ELLIPSIS, AT, COLON_COLON, ASSIGN, GREATER, LESS, NOT, TILDE, QUESTION, COLON, ARROW, EQUAL, LESS_EQUAL, GREATER_EQUAL, NOT_EQUAL, AND_AND, OR_OR, PLUS_PLUS, MINUS_MINUS, PLUS, MINUS, STAR, SLASH, AND, OR, CARET, PERCENT, SHIFT_LEFT, PLUS_ASSIGN, MINUS_ASSIGN, STAR_ASSIGN, SLASH_ASSIGN, AND_ASSIGN, OR_ASSIGN, CARET_ASSIGN, PERCENT_ASSIGN, SHIFT_LEFT_ASSIGN}
+use Rattle.java_lex.specs.declared.class.TheConstants.{PAREN_OPEN, PAREN_CLOSE, BRACE_OPEN, BRACE_CLOSE, BRACKET_OPEN}
+use Rattle.java_lex.specs.declared.class.TheConstants.{BRACKET_CLOSE, SEMICOLON, COMMA, DOT, ELLIPSIS, AT, COLON_COLON}
+use Rattle.java_lex.specs.declared.class.TheConstants.{ASSIGN, GREATER, LESS, NOT, TILDE, QUESTION, COLON, ARROW, EQUAL}
+use Rattle.java_lex.specs.declared.class.TheConstants.{LESS_EQUAL, GREATER_EQUAL, NOT_EQUAL, AND_AND, OR_OR, PLUS_PLUS}
+use Rattle.java_lex.specs.declared.class.TheConstants.{MINUS_MINUS, PLUS, MINUS, STAR, SLASH, AND, OR, CARET, PERCENT}
+use Rattle.java_lex.specs.declared.class.TheConstants.{SHIFT_LEFT, PLUS_ASSIGN, MINUS_ASSIGN, STAR_ASSIGN, SLASH_ASSIGN}
+use Rattle.java_lex.specs.declared.class.TheConstants.{AND_ASSIGN, OR_ASSIGN, CARET_ASSIGN, PERCENT_ASSIGN}
+use Rattle.java_lex.specs.declared.class.TheConstants.{SHIFT_LEFT_ASSIGN}
 
 -- each sign with its class
 abbrev pub signs : List (ℕ × List ℕ)

@@ -3,14 +3,19 @@ use Rattle.std.specs.Prelude.{◌≡◌, ℕ, ◌||◌, ◌==◌, Bool, true, Li
 use Rattle.std.specs.Char.{IsScalar}
 use Rattle.std.specs.Str.{bytes_eq}
 use Rattle.unicode_ident.specs.Ident.{is_xid_start, is_xid_continue}
-use Rattle.java_lex.specs.declared.class.TheConstants.{ID, PRIM, BOOL, NULL, ABSTRACT, ASSERT, BREAK, CASE, CATCH, CLASS, CONST, CONTINUE, DEFAULT, DO, ELSE, ENUM, EXTENDS, FINAL, FINALLY, FOR, GOTO, IF, IMPLEMENTS, IMPORT, INSTANCEOF, INTERFACE, NATIVE, NEW, PACKAGE, PRIVATE, PROTECTED, PUBLIC, RETURN, STATIC, STRICTFP, SUPER, SWITCH, SYNCHRONIZED, THIS, THROW, THROWS, TRANSIENT, TRY, VOID, VOLATILE, WHILE}
+use Rattle.java_lex.specs.declared.class.TheConstants.{ID, PRIM, BOOL, NULL, ABSTRACT, ASSERT, BREAK, CASE, CATCH}
+use Rattle.java_lex.specs.declared.class.TheConstants.{CLASS, CONST, CONTINUE, DEFAULT, DO, ELSE, ENUM, EXTENDS, FINAL}
+use Rattle.java_lex.specs.declared.class.TheConstants.{FINALLY, FOR, GOTO, IF, IMPLEMENTS, IMPORT, INSTANCEOF}
+use Rattle.java_lex.specs.declared.class.TheConstants.{INTERFACE, NATIVE, NEW, PACKAGE, PRIVATE, PROTECTED, PUBLIC}
+use Rattle.java_lex.specs.declared.class.TheConstants.{RETURN, STATIC, STRICTFP, SUPER, SWITCH, SYNCHRONIZED, THIS}
+use Rattle.java_lex.specs.declared.class.TheConstants.{THROW, THROWS, TRANSIENT, TRY, VOID, VOLATILE, WHILE}
 
 -- the characters that begin a word, and those that go on with one
 abbrev pub begins_word : ℕ → Bool
 begins_word c = is_xid_start c || (c == 95) || (c == 36)
 
-abbrev pub goes_on : ℕ → Bool
-goes_on c = is_xid_continue c || (c == 95) || (c == 36)
+abbrev pub continues_word : ℕ → Bool
+continues_word c = is_xid_continue c || (c == 95) || (c == 36)
 
 -- a character that passes a test
 pub record IsLetter (p : ℕ → Bool) (c : ℕ) : Type 0 where
@@ -18,9 +23,9 @@ pub record IsLetter (p : ℕ → Bool) (c : ℕ) : Type 0 where
   pub passes : p c ≡ true
 
 -- each of these characters goes on with a word
-abbrev pub AllGoOn : List ℕ → Type 0
-AllGoOn [] = Unit {0}
-AllGoOn (c ∷ cs) = IsLetter goes_on c × AllGoOn cs
+abbrev pub AllContinue : List ℕ → Type 0
+AllContinue [] = Unit {0}
+AllContinue (c ∷ cs) = IsLetter continues_word c × AllContinue cs
 
 -- A word: the UTF-8 of a first character and of those behind it.
 pub record IsWord (s : List ℕ) : Type 0 where
@@ -28,7 +33,7 @@ pub record IsWord (s : List ℕ) : Type 0 where
   pub others : List ℕ
   pub is : s ≡ encode_utf8_all (first ∷ others)
   pub begins : IsLetter begins_word first
-  pub goes : AllGoOn others
+  pub goes : AllContinue others
 
 -- the words that aren't identifiers
 unfoldable pub keywords : List (List ℕ × ℕ)

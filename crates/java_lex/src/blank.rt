@@ -1,6 +1,7 @@
 // White space and comments.
 ghost use Rattle.std.specs.Prelude.{◌≡◌, ◌≤◌, ◌<◌, true, length, MatchOption};
-ghost use Rattle.java_lex.specs.Blanks.{is_line_end, is_white, begins_line_comment, begins_block_comment, IsLineComment, IsBlockComment, IsOpenComment};
+ghost use Rattle.java_lex.specs.Blanks.{is_line_end, is_white, begins_line_comment, begins_block_comment};
+ghost use Rattle.java_lex.specs.Blanks.{IsLineComment, IsBlockComment, IsOpenComment};
 ghost use Rattle.java_lex.specs.Scanning.{IsWhite};
 
 fn is_line_end(b: u8) -> bool

@@ -8,7 +8,8 @@ use crate::automaton::longest;
 /// The first refused escape in a literal or a comment, by the automaton's state before such an escape.
 pub fn first_refused(text: &[u8], escape: u8) -> Option<usize>
     requires { IsEscape escape }
-    ensures { MatchOption result (NoneRefused (escape_of escape) text.now) (IsFirstRefused (escape_of escape) text.now) }
+    ensures { let refused = escape_of escape in
+        MatchOption result (NoneRefused refused text.now) (IsFirstRefused refused text.now) }
 {
     let mut at = 0;
     while at < text.len() {

@@ -1,7 +1,7 @@
 // Files cut into leaves.
 ghost use Rattle.std.specs.Prelude.{◌≡◌, ◌+◌, ◌≤◌, length, IfOk};
-ghost use Rattle.java_lex.specs.Leaves.{AreLeaves, text_of, mark_size};
-ghost use Rattle.java_lex.specs.Laws.{AreTiles};
+ghost use Rattle.java_lex.specs.Leaves.{AreJavaLeaves, utf8_front, mark_size};
+ghost use Rattle.java_lex.specs.Tiles.{AreTiles};
 
 use crate::blank::white_size;
 use crate::class::END;
@@ -11,8 +11,8 @@ use rw_base::{Bad, Leaf, Leaves, MOST_BYTES, Mem};
 use std::alloc::Global;
 
 // The longest front of a file that is UTF-8.
-fn text_of(bytes: &[u8]) -> &[u8]
-    ensures { result.now ≡ text_of bytes.now }
+fn utf8_front(bytes: &[u8]) -> &[u8]
+    ensures { result.now ≡ utf8_front bytes.now }
 {
     match bytes.to_str() {
         Ok(_) => bytes,
@@ -34,10 +34,10 @@ fn mark_size(text: &[u8]) -> usize
 /// prefix, up to the first bad place.
 pub fn java_leaves(alloc: Global, bytes: &[u8]) -> Mem<Leaves>
     requires { length bytes.now ≤ MOST_BYTES }
-    ensures leaves { IfOk result (λ r. AreLeaves bytes.now r.leaves.items r.bad) }
+    ensures leaves { IfOk result (λ r. AreJavaLeaves bytes.now r.leaves.items r.bad) }
     ensures tiles { IfOk result (λ r. AreTiles bytes.now r.leaves.items r.bad) }
 {
-    let text = text_of(bytes);
+    let text = utf8_front(bytes);
     let broken = text.len() < bytes.len();
     // Room for the leaves of a file with comments.
     let mut leaves = Vec::with_capacity(alloc, text.len() / 8)?;

@@ -1,4 +1,23 @@
-//! The lexical structure of Java 8: leaves, each with the white space and comments before it (JLS 3).
+//! Java 8 files cut into leaves, the tokens of the Java Language Specification (JLS 3), each with the white space and
+//! the comments before it.
+//!
+//! ```text
+//! let Leaves { leaves, bad } = java_leaves(alloc, b"int x;")?;
+//! // four leaves, of the classes PRIM, ID, SEMICOLON and END, and no bad place
+//! ```
+//!
+//! The leaves and the bad place are those of the definition `AreJavaLeaves` (clause `leaves` of `java_leaves`): each
+//! file has them (`leaves_are_there`) and has them in one way (`leaves_are_one`). They lie one behind another, and none
+//! of the file is lost (clause `tiles`, and `leaves_tile` of the definition). A leaf that is `;`, `{` or `}` parts a
+//! text: what stands before it doesn't see what comes behind (`cut_alike`), what stands behind it is cut as a text of
+//! its own (`cut_behind`), wherever it stands (`cut_anywhere`), and both together are cut into the leaves of both
+//! (`cut_together`). `is_identifier` is true exactly where a whole text is a leaf of the class `ID`. The classes are
+//! distinct numbers (`classes_differ`).
+//!
+//! The definitions in specs/, in this order: `Numbers`, `Literals`, `Signs` and `Words` are the lexical grammar, over
+//! the expressions of `rw_base`, and `Kinds` gives each text its class. `Blanks` has white space and comments, and
+//! `Escapes` the escapes that are refused. `Leaves` cuts a text and a file by these. `Tiles`, `Laws` and `Classes` are
+//! the words of the laws. `Scanning` is of the small functions alone, and no public clause cites it.
 #![tactic(auto)]
 
 mod automaton;
@@ -10,9 +29,11 @@ mod leaves;
 mod piece;
 mod slots;
 mod table;
-#[cfg(test)]
-mod tests;
 mod word;
 
-pub use laws::{cut_alike, cut_anywhere, cut_behind, leaves_are_one, leaves_tile};
+pub use laws::{
+    classes_differ, cut_alike, cut_anywhere, cut_behind, cut_together, leaves_are_one,
+    leaves_are_there, leaves_tile,
+};
 pub use leaves::java_leaves;
+pub use word::is_identifier;

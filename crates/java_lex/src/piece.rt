@@ -13,8 +13,8 @@ use crate::table::{COMMENT_ESCAPE, LEAF, LITERAL_ESCAPE};
 use crate::word::{word_class, word_size};
 use rw_base::Cause;
 
-/// What a text begins with where no white space stands: the end, a comment of so many bytes, a leaf with its class, or a
-/// bad place so many bytes on.
+/// What a text begins with where no white space stands: the end, a comment of so many bytes, a leaf with its class, or
+/// a bad place so many bytes on.
 #[derive(Clone, Copy)]
 pub enum Piece {
     End,

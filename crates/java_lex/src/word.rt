@@ -1,6 +1,8 @@
 // Identifiers and keywords.
 ghost use Rattle.std.specs.Prelude.{◌≡◌, ◌<◌, ◌≤◌, ◌*◌, ◌+◌, ◌%◌, ◌-◌, length, slice_index, if◌then◌else◌};
-ghost use Rattle.java_lex.specs.Words.{word_class, begins_word, goes_on};
+ghost use Rattle.std.specs.Prelude.{◌↔◌, IsTrue};
+ghost use Rattle.java_lex.specs.Words.{word_class, begins_word, continues_word};
+ghost use Rattle.java_lex.specs.Kinds.{IsLeaf};
 ghost use Rattle.java_lex.specs.Scanning.{IsFirstSize, IsWordSize, slot_of, slot_word, slot_class};
 
 use crate::class::ID;
@@ -15,7 +17,7 @@ static BEGINS: [u8; 128] = [
 ];
 
 // 1 for each byte below 128 that goes on with one.
-static GOES_ON: [u8; 128] = [
+static CONTINUES: [u8; 128] = [
     0, 0, 0, 0, 0, 0, 0, 0, 0, 0, 0, 0, 0, 0, 0, 0, 0, 0, 0, 0, 0, 0, 0, 0, 0, 0, 0, 0, 0, 0, 0, 0,
     0, 0, 0, 0, 1, 0, 0, 0, 0, 0, 0, 0, 0, 0, 0, 0, 1, 1, 1, 1, 1, 1, 1, 1, 1, 1, 0, 0, 0, 0, 0, 0,
     0, 1, 1, 1, 1, 1, 1, 1, 1, 1, 1, 1, 1, 1, 1, 1, 1, 1, 1, 1, 1, 1, 1, 1, 1, 1, 1, 0, 0, 0, 0, 1,
@@ -33,11 +35,11 @@ fn begins_size(b: u8) -> usize
 
 // 1 where it goes on with one, else 0.
 #[inline(always)]
-fn goes_on_size(b: u8) -> usize
+fn continues_size(b: u8) -> usize
     requires { b < 128 }
-    ensures { result ≡ (if goes_on b then 1 else 0) }
+    ensures { result ≡ (if continues_word b then 1 else 0) }
 {
-    GOES_ON[b as usize] as usize
+    CONTINUES[b as usize] as usize
 }
 
 // The bytes of the character past ASCII that a text begins with, where it begins a word, else 0.
@@ -53,9 +55,9 @@ fn wide_begins_size(text: &[u8]) -> usize
 }
 
 // The same where it goes on with one.
-fn wide_goes_on_size(text: &[u8]) -> usize
+fn wide_continues_size(text: &[u8]) -> usize
     requires { 128 ≤ slice_index text.now 0 }
-    ensures { IsFirstSize goes_on text.now result }
+    ensures { IsFirstSize continues_word text.now result }
 {
     let (found, size) = bstr::decode_utf8(text);
     match found {
@@ -77,12 +79,12 @@ fn first_size(text: &[u8]) -> usize
 
 // The same where it goes on with one.
 fn next_size(text: &[u8]) -> usize
-    ensures { IsFirstSize goes_on text.now result }
+    ensures { IsFirstSize continues_word text.now result }
 {
     match text {
         [] => 0,
-        [b, ..] if *b < 128 => goes_on_size(*b),
-        _ => wide_goes_on_size(text),
+        [b, ..] if *b < 128 => continues_size(*b),
+        _ => wide_continues_size(text),
     }
 }
 
@@ -147,4 +149,15 @@ pub fn word_class(word: &[u8]) -> u16
     } else {
         ID
     }
+}
+
+/// Whether a text is one identifier leaf: a word that is neither a keyword nor `true`, `false` or `null`.
+pub fn is_identifier(text: &[u8]) -> bool
+    ensures { IsTrue result ↔ IsLeaf ID text.now }
+{
+    let size = word_size(text);
+    if size == 0 || size < text.len() {
+        return false;
+    }
+    word_class(text) == ID
 }

@@ -6,4 +6,4 @@ pub returns-in-empty : goal.returns-in-empty
 returns-in-empty c = first-empty _ _ (omega arith)
 
 pub returns-in-len1-up : goal.returns-in-len1-up
-returns-in-len1-up c = ascii-first _ _ _ _ (omega arith) refl c.if-b-lt128.true c.goes_on_size.ensures
+returns-in-len1-up c = ascii-first _ _ _ _ (omega arith) refl c.if-b-lt128.true c.continues_size.ensures

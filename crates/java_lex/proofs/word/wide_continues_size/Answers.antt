@@ -1,7 +1,7 @@
 use Rattle.std.proofs.Common.{◌≡◌, Some, ◌∙◌, sym}
 use Rattle.bstr.specs.Utf8.{decoded}
 use Rattle.java_lex.proofs.Wording.{wide-some, wide-other, wide-none, wide-char, wide-goes}
-use Rattle.java_lex.proofs.word.wide_goes_on_size.Goals as goal
+use Rattle.java_lex.proofs.word.wide_continues_size.Goals as goal
 
 pub returns-in-Some : goal.returns-in-Some
 returns-in-Some c =

@@ -1,7 +1,7 @@
 use Rattle.std.proofs.Common.{ap, sym, take, ◌∙◌}
 use Rattle.std.proofs.lemmas.Str.{utf8_valid_len-IsUtf8}
 use Rattle.std.proofs.Math.Seq.{take-length}
-use Rattle.java_lex.proofs.leaves.text_of.Goals as goal
+use Rattle.java_lex.proofs.leaves.utf8_front.Goals as goal
 
 pub returns-in-Ok : goal.returns-in-Ok
 returns-in-Ok c =
