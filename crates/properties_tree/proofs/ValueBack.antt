@@ -4,13 +4,13 @@ use Rattle.std.specs.Prelude.{◌==◌}
 use Rattle.std.proofs.lemmas.Bool.{cases_Bool, eqb-true, or_cases, or_from}
 use Rattle.std.proofs.lemmas.List.{drop_at}
 use Rattle.properties_tree.specs.Characters.{is_line_end, is_blank, is_separator, is_comment_mark, ends_key}
-use Rattle.properties_tree.specs.Entries.{char, raw, meant, chars, through, Properties, properties_of, no_entry}
+use Rattle.properties_tree.specs.Entries.{char, bytes_of, characters_of, chars, take_characters, Properties, properties_of, no_entry}
 use Rattle.properties_tree.specs.Sizes.{begins_no_entry, entries_from}
 use Rattle.properties_tree.specs.Cutting.{pieces_in, separator_front, separator_from, key_size, separator_size}
-use Rattle.properties_tree.specs.Decoding.{byte, elements_of, text_of, decoded, value_text, escaped}
-use Rattle.properties_tree.specs.Spelling.{spelled, spelled_key, spelled_rest, spelled_spaces, spelled_value}
+use Rattle.properties_tree.specs.Decoding.{byte, elements_of, utf8_of, decode, value_text, escaped_byte}
+use Rattle.properties_tree.specs.Spelling.{spell_byte, spelled_key, spelled_rest, spelled_spaces, spelled_value}
 use Rattle.properties_tree.specs.Laws.{BeginsWithValue}
-use Rattle.properties_tree.proofs.Plain.{meant-chars, raw-chars}
+use Rattle.properties_tree.proofs.Plain.{characters_of-chars, bytes_of-chars}
 use Rattle.properties_tree.proofs.Cut.{at_char, at_pair, at_end}
 use Rattle.properties_tree.proofs.EntryAt.{entry_begins, behind_key, behind_separator}
 use Rattle.properties_tree.proofs.First.{passed_over}
@@ -19,10 +19,10 @@ use Rattle.properties_tree.proofs.ReadBack.{StartsEntry, some_starts, spelled_fr
 
 -- how a character of a value is spelled: behind a backslash, or as it stands
 data Way (b : ℕ) : List ℕ → Type 0 where
-  marked : {c : ℕ} → is_line_end c ≡ false → (c == 117) ≡ false → escaped c ≡ b → Way b (92 ∷ c ∷ [])
+  marked : {c : ℕ} → is_line_end c ≡ false → (c == 117) ≡ false → escaped_byte c ≡ b → Way b (92 ∷ c ∷ [])
   alone : is_line_end b ≡ false → (b == 92) ≡ false → Way b (b ∷ [])
 
-way : (b : ℕ) → Way b (spelled (b == 92) b)
+way : (b : ℕ) → Way b (spell_byte (b == 92) b)
 way b =
     elim (cases_Bool (b == 9)) [
       | inl tab ↦ rw tab (marked refl refl (sym (eqb-true b 9 tab)))
@@ -44,27 +44,27 @@ way b =
 -- what is spelled is characters, and says what was spelled
 record IsSpelled (v w : List ℕ) : Type 0 where
   pieces : (text : List ℕ) → pieces_in (w ++ 10 ∷ text) ≡ chars w
-  text : decoded w ≡ v
+  text : decode w ≡ v
 
 one_spelled : (b : ℕ) (w v rest : List ℕ) → Way b w → IsSpelled v rest → IsSpelled (b ∷ v) (w ++ rest)
-unfolding text_of
+unfolding utf8_of
 one_spelled b _ v rest (marked {c = c} inside other says) more = record {
   pieces = λ text. at_pair 92 c (rest ++ 10 ∷ text) refl inside ∙ ap (λ ps. char 92 ∷ char c ∷ ps) (more.pieces text);
-  text = ap text_of (at_escape 92 (c ∷ rest) refl ∙ (rw other refl ∙ ap (λ k. byte k ∷ elements_of rest) says)) ∙ ap (λ t. b ∷ t) more.text;
+  text = ap utf8_of (at_escape 92 (c ∷ rest) refl ∙ (rw other refl ∙ ap (λ k. byte k ∷ elements_of rest) says)) ∙ ap (λ t. b ∷ t) more.text;
 }
 one_spelled b _ v rest (alone inside other) more = record {
   pieces = λ text. at_char b (rest ++ 10 ∷ text) inside other ∙ ap (λ ps. char b ∷ ps) (more.pieces text);
-  text = ap text_of (at_byte b rest other) ∙ ap (λ t. b ∷ t) more.text;
+  text = ap utf8_of (at_byte b rest other) ∙ ap (λ t. b ∷ t) more.text;
 }
 
 nothing_spelled : IsSpelled [] []
-unfolding text_of
-nothing_spelled = record { pieces = λ text. at_end 10 text refl; text = ap text_of none_said }
+unfolding utf8_of
+nothing_spelled = record { pieces = λ text. at_end 10 text refl; text = ap utf8_of none_said }
 
 rest_spelled : (v : List ℕ) → IsSpelled v (spelled_rest v)
 unfolding spelled_rest
 rest_spelled [] = nothing_spelled
-rest_spelled (b ∷ v) = one_spelled b (spelled (b == 92) b) v (spelled_rest v) (way b) (rest_spelled v)
+rest_spelled (b ∷ v) = one_spelled b (spell_byte (b == 92) b) v (spelled_rest v) (way b) (rest_spelled v)
 
 spaces_spelled : (v : List ℕ) → IsSpelled v (spelled_spaces v)
 unfolding spelled_spaces
@@ -96,7 +96,7 @@ other_counts : (m : Bool) (b : ℕ) (rest : List ℕ) → is_blank b ≡ false �
 other_counts true b rest blank other = rw blank refl
 other_counts false b rest blank other = rw (blank, other) refl
 
-first_counts : (m : Bool) (b : ℕ) (rest : List ℕ) → is_separator b ≡ false → (b == 32) ≡ false → separator_from m (spelled (b == 92) b ++ rest) ≡ 0
+first_counts : (m : Bool) (b : ℕ) (rest : List ℕ) → is_separator b ≡ false → (b == 32) ≡ false → separator_from m (spell_byte (b == 92) b ++ rest) ≡ 0
 first_counts m b rest separator space =
     elim (cases_Bool (b == 9)) [
       | inl tab ↦ rw tab (slash_counts m (116 ∷ rest))
@@ -146,7 +146,7 @@ module _ (separator : ℕ) (inside : is_line_end separator ≡ false) (other : (
 
     behind_spelled : behind_key all ≡ separator ∷ tail
     behind_spelled =
-        let size : key_size all ≡ length (spelled_key key) = ap (λ ps. length (raw ps)) (spelled_front separator tail inside other ends key) ∙ ap length (raw-chars (spelled_key key)) in
+        let size : key_size all ≡ length (spelled_key key) = ap (λ ps. length (bytes_of ps)) (spelled_front separator tail inside other ends key) ∙ ap length (bytes_of-chars (spelled_key key)) in
         ap (λ n. drop n all) size ∙ drop_at (spelled_key key) (separator ∷ tail) (length (spelled_key key)) refl
 
     pieces : pieces_in (separator ∷ tail) ≡ char separator ∷ chars (spelled_value value)
@@ -154,9 +154,9 @@ module _ (separator : ℕ) (inside : is_line_end separator ≡ false) (other : (
 
     one_byte : separator_size (separator ∷ tail) ≡ 1
     one_byte =
-        let count : separator_from false (separator ∷ meant (chars (spelled_value value))) ≡ 1 =
-        ap (λ w. separator_from false (separator ∷ w)) (meant-chars (spelled_value value)) ∙ one (spelled_value value) (λ m. value_counts m value) in
-        ap (λ ps. length (raw (separator_front false ps))) pieces ∙ ap (λ n. length (raw (through n (char separator ∷ chars (spelled_value value))))) count
+        let count : separator_from false (separator ∷ characters_of (chars (spelled_value value))) ≡ 1 =
+        ap (λ w. separator_from false (separator ∷ w)) (characters_of-chars (spelled_value value)) ∙ one (spelled_value value) (λ m. value_counts m value) in
+        ap (λ ps. length (bytes_of (separator_front false ps))) pieces ∙ ap (λ n. length (bytes_of (take_characters n (char separator ∷ chars (spelled_value value))))) count
 
     left : behind_separator all ≡ tail
     left = ap (λ t. drop (separator_size t) t) behind_spelled ∙ ap (λ n. drop n (separator ∷ tail)) one_byte
@@ -168,9 +168,9 @@ module _ (separator : ℕ) (inside : is_line_end separator ≡ false) (other : (
         record {
           some = subst (λ (p : Properties). 0 < length p.entries) (sym first) (omega arith);
           same = subst (λ (p : Properties). value_text (get_or p.entries 0 no_entry) ≡ value) (sym first)
-              (ap (λ t. decoded (meant (pieces_in (behind_separator t)))) starts.blanks
-              ∙ (ap (λ t. decoded (meant (pieces_in t))) left
-              ∙ (ap (λ ps. decoded (meant ps)) ((value_spelled value).pieces text) ∙ (ap decoded (meant-chars (spelled_value value)) ∙ (value_spelled value).text))));
+              (ap (λ t. decode (characters_of (pieces_in (behind_separator t)))) starts.blanks
+              ∙ (ap (λ t. decode (characters_of (pieces_in t))) left
+              ∙ (ap (λ ps. decode (characters_of ps)) ((value_spelled value).pieces text) ∙ (ap decode (characters_of-chars (spelled_value value)) ∙ (value_spelled value).text))));
         }
 
   pub value_behind_some : (key value text : List ℕ) → 0 < length key → BeginsWithValue (spelled_key key ++ separator ∷ (spelled_value value ++ 10 ∷ text)) value

@@ -1,7 +1,7 @@
 -- What holds of every file, key and value.
 use Rattle.std.specs.Prelude.{◌≡◌, ℕ, ◌+◌, ◌*◌, ◌<◌, ◌≤◌, List, [], ◌∷◌, ◌++◌, length}
 use Rattle.rw_base.specs.Arena.{IsTree}
-use Rattle.properties_tree.specs.Entries.{Entry, properties_of, raw}
+use Rattle.properties_tree.specs.Entries.{Entry, properties_of, bytes_of}
 use Rattle.properties_tree.specs.Decoding.{key_text, value_text, entry_at}
 use Rattle.properties_tree.specs.Layout.{tree_of}
 use Rattle.rw_base.specs.declared.leaves.TheConstants.{MOST_BYTES}
@@ -9,7 +9,7 @@ use Rattle.properties_tree.specs.Spelling.{spelled_key, spelled_value}
 
 -- an entry as it stands in its file
 abbrev pub whole_entry : Entry → List ℕ
-whole_entry e = e.prefix ++ (raw e.key ++ (raw e.separator ++ (raw e.value ++ e.ending)))
+whole_entry e = e.prefix ++ (bytes_of e.key ++ (bytes_of e.separator ++ (bytes_of e.value ++ e.ending)))
 
 -- entries as they stand, and what stands behind them
 abbrev pub whole_of : List Entry → List ℕ → List ℕ

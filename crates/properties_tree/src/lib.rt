@@ -11,8 +11,6 @@ mod option;
 mod pieces;
 mod reader;
 mod spelling;
-#[cfg(test)]
-mod tests;
 mod tree;
 
 pub use keys::{KeyPlace, next_with_key};
