@@ -73,21 +73,25 @@ key_grows : (b : ℕ) (w x : List ℕ) (front : List ℕ) → Way b w → key_fr
 key_grows b _ x front (marked {c = c} inside other says) more = ap key_front (at_pair 92 c x refl inside) ∙ ap (λ ps. char 92 ∷ char c ∷ ps) more
 key_grows b _ x front (alone inside other key comment) more = ap key_front (at_char b x inside other) ∙ (rw (other, key) refl ∙ ap (λ ps. char b ∷ ps) more)
 
-module _ (separator : ℕ) (text : List ℕ) (inside : is_line_end separator ≡ false) (other : (separator == 92) ≡ false) (ends : ends_key separator ≡ true) where
-  pub spelled_front : (key : List ℕ) → key_front (pieces_in (spelled_key key ++ separator ∷ text)) ≡ chars (spelled_key key)
-  unfolding spelled_key
-  spelled_front [] = ap key_front (at_char separator text inside other) ∙ rw (other, ends) refl
-  spelled_front (b ∷ rest) =
-      let w = spell_byte (is_marked_in_key b) b in
-      ap (λ t. key_front (pieces_in t)) (append_assoc w (spelled_key rest) (separator ∷ text))
-      ∙ key_grows b w (spelled_key rest ++ separator ∷ text) (spelled_key rest) (way b) (spelled_front rest)
+-- before a text that begins with no character of a key
+pub spelled_front : (tail : List ℕ) → key_front (pieces_in tail) ≡ [] → (key : List ℕ) → key_front (pieces_in (spelled_key key ++ tail)) ≡ chars (spelled_key key)
+unfolding spelled_key
+spelled_front tail stops [] = stops
+spelled_front tail stops (b ∷ rest) =
+    let w = spell_byte (is_marked_in_key b) b in
+    ap (λ t. key_front (pieces_in t)) (append_assoc w (spelled_key rest) tail)
+    ∙ key_grows b w (spelled_key rest ++ tail) (spelled_key rest) (way b) (spelled_front tail stops rest)
+
+-- as one that begins with a separator
+pub separator_stops : (separator : ℕ) (text : List ℕ) → is_line_end separator ≡ false → (separator == 92) ≡ false → ends_key separator ≡ true → key_front (pieces_in (separator ∷ text)) ≡ []
+separator_stops separator text inside other ends = ap key_front (at_char separator text inside other) ∙ rw (other, ends) refl
 
 says_one : (b : ℕ) (w x : List ℕ) → Way b w → elements_of (w ++ x) ≡ byte b ∷ elements_of x
 says_one b _ x (marked {c = c} inside other says) =
     at_escape 92 (c ∷ x) refl ∙ (rw other refl ∙ ap (λ k. byte k ∷ elements_of x) says)
 says_one b _ x (alone inside other key comment) = at_byte b x other
 
-decode-spelled : (key : List ℕ) → decode (spelled_key key) ≡ key
+pub decode-spelled : (key : List ℕ) → decode (spelled_key key) ≡ key
 unfolding spelled_key utf8_of
 decode-spelled [] = ap utf8_of none_said
 decode-spelled (b ∷ rest) = ap utf8_of (says_one b (spell_byte (is_marked_in_key b) b) (spelled_key rest) (way b)) ∙ ap (λ t. b ∷ t) (decode-spelled rest)
@@ -105,12 +109,16 @@ starts_with b _ x (alone inside other key comment) =
     let blank = parts.1 in
     record { blanks = rw blank refl; starts = or_from (is_line_end b) (is_comment_mark b) inside comment }
 
-pub some_starts : (separator : ℕ) (text key : List ℕ) → 0 < length key → StartsEntry (spelled_key key ++ separator ∷ text)
+pub some_starts : (tail key : List ℕ) → 0 < length key → StartsEntry (spelled_key key ++ tail)
 unfolding spelled_key
-some_starts separator text [] some = absurd (omega arith)
-some_starts separator text (b ∷ rest) some =
+some_starts tail [] some = absurd (omega arith)
+some_starts tail (b ∷ rest) some =
     let w = spell_byte (is_marked_in_key b) b in
-    subst StartsEntry (sym (append_assoc w (spelled_key rest) (separator ∷ text))) (starts_with b w (spelled_key rest ++ separator ∷ text) (way b))
+    subst StartsEntry (sym (append_assoc w (spelled_key rest) tail)) (starts_with b w (spelled_key rest ++ tail) (way b))
+
+-- a mark of a separator does too
+pub mark_starts : (separator : ℕ) (text : List ℕ) → is_line_end separator ≡ false → is_blank separator ≡ false → is_comment_mark separator ≡ false → StartsEntry (separator ∷ text)
+mark_starts separator text inside dark mark = record { blanks = rw dark refl; starts = or_from (is_line_end separator) (is_comment_mark separator) inside mark }
 
 first_entry : (s : List ℕ) (key : List ℕ) → StartsEntry s → key_front (pieces_in s) ≡ chars (spelled_key key) → BeginsWithKey s key
 unfolding properties_of entries_from
@@ -125,11 +133,11 @@ first_entry s key starts front =
 pub some_reads_back : (separator : ℕ) → is_line_end separator ≡ false → (separator == 92) ≡ false → ends_key separator ≡ true
     → (key text : List ℕ) → 0 < length key → BeginsWithKey (spelled_key key ++ separator ∷ text) key
 some_reads_back separator inside other ends key text some =
-    first_entry (spelled_key key ++ separator ∷ text) key (some_starts separator text key some) (spelled_front separator text inside other ends key)
+    first_entry (spelled_key key ++ separator ∷ text) key (some_starts (separator ∷ text) key some) (spelled_front (separator ∷ text) (separator_stops separator text inside other ends) key)
 
 pub reads_back : (separator : ℕ) → is_line_end separator ≡ false → (separator == 92) ≡ false → ends_key separator ≡ true → is_blank separator ≡ false → is_comment_mark separator ≡ false
     → (key text : List ℕ) → BeginsWithKey (spelled_key key ++ separator ∷ text) key
 unfolding spelled_key
 reads_back separator inside other ends dark mark [] text =
-    first_entry (separator ∷ text) [] (record { blanks = rw dark refl; starts = or_from (is_line_end separator) (is_comment_mark separator) inside mark }) (spelled_front separator text inside other ends [])
+    first_entry (separator ∷ text) [] (mark_starts separator text inside dark mark) (spelled_front (separator ∷ text) (separator_stops separator text inside other ends) [])
 reads_back separator inside other ends dark mark (b ∷ rest) text = some_reads_back separator inside other ends (b ∷ rest) text (omega arith)

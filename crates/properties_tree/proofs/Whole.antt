@@ -202,7 +202,7 @@ whole-entries_from before text = (are_whole (lines_of text)).fresh before ∙ ap
 
 -- ---- leaves
 
-entry_end-is : (at : ℕ) (e : Entry) → entry_end at e ≡ at + length (whole_entry e)
+pub entry_end-is : (at : ℕ) (e : Entry) → entry_end at e ≡ at + length (whole_entry e)
 entry_end-is at e = simp length-append (omega arith)
 
 end_from-leaves : (at : ℕ) (es : List Entry) (rest : List ℕ) → end_from at (leaves_from at es rest) ≡ at + length (whole_of es rest)

@@ -42,6 +42,16 @@ fn key_bytes<'b>(tree: &Tree, bytes: &'b [u8], entry: NodeId) -> &'b [u8]
     tree.text(bytes, key_leaf(tree, bytes, entry))
 }
 
+/// What stands before an entry, back to the entry before it: lines that are passed over, and the blanks of its own line.
+#[tactic(auto, using(crate::proofs::InTree::in_tree, crate::proofs::Prefixed::prefix_is))]
+pub fn prefix_of_entry<'b>(tree: &Tree, bytes: &'b [u8], entry: NodeId) -> &'b [u8]
+    requires tree { tree.now ≡ tree_of bytes.now }
+    requires there { entry.0 < length (properties_of bytes.now).entries }
+    ensures { result.now ≡ (entry_at bytes.now entry.0).prefix }
+{
+    tree.prefix(bytes, key_leaf(tree, bytes, entry))
+}
+
 // The bytes of an entry's value, as they stand in the file.
 #[tactic(auto, using(crate::proofs::InTree::in_tree))]
 fn value_bytes<'b>(tree: &Tree, bytes: &'b [u8], entry: NodeId) -> &'b [u8]
