@@ -8,7 +8,7 @@ use Rattle.rw_base.specs.NewText.{leaf_edit, edit_at, leaves_new, AreLeafEdits}
 use Rattle.rw_base.specs.Laws.{leaf_edits_new}
 use Rattle.rw_base.specs.declared.edit.Edit.{Edit}
 use Rattle.properties_tree.specs.Decoding.{key_text}
-use Rattle.properties_tree.specs.Entries.{Entry, properties_of, no_entry, raw}
+use Rattle.properties_tree.specs.Entries.{Entry, properties_of, no_entry, bytes_of}
 use Rattle.properties_tree.specs.Keys.{key_or, entries_with, with_key}
 use Rattle.properties_tree.specs.Laws.{PartsAreTheFile, FilesHaveTrees, EntriesHaveFourLeaves, whole_entry, whole_of}
 use Rattle.properties_tree.specs.Layout.{leaves_from, entry_end, tree_of}
@@ -67,7 +67,7 @@ record AreFor (edits : List Edit) (old new : List ℕ) (n : ℕ) (es : List Entr
   end : leaf_edit edits (4 * (n + length es)) ≡ None
 
 module _ (bytes old new : List ℕ) (edits : List Edit) where
-  picked_or : (e : Entry) → unwrap_or (picked old new e) (raw e.key) ≡ key_or old (spelled_key new) e
+  picked_or : (e : Entry) → unwrap_or (picked old new e) (bytes_of e.key) ≡ key_or old (spelled_key new) e
   picked_or e = elim (cases_Bool (bytes_eq (key_text e) old)) [ inl same ↦ rw same refl | inr differ ↦ rw differ refl ]
 
   for_more : (n : ℕ) (e : Entry) (es : List Entry) → AreFor edits old new n (e ∷ es) → AreFor edits old new (n + 1) es
@@ -97,49 +97,49 @@ module _ (bytes old new : List ℕ) (edits : List Edit) where
     left = whole_of es rest
 
     abbrev key_to : ℕ
-    key_to = at + length e.prefix + length (raw e.key)
+    key_to = at + length e.prefix + length (bytes_of e.key)
 
     abbrev separator_to : ℕ
-    separator_to = key_to + 0 + length (raw e.separator)
+    separator_to = key_to + 0 + length (bytes_of e.separator)
 
     abbrev value_to : ℕ
-    value_to = separator_to + 0 + length (raw e.value)
+    value_to = separator_to + 0 + length (bytes_of e.value)
 
     abbrev before_separator : List ℕ
-    before_separator = before ++ (e.prefix ++ raw e.key)
+    before_separator = before ++ (e.prefix ++ bytes_of e.key)
 
     abbrev before_value : List ℕ
-    before_value = before_separator ++ raw e.separator
+    before_value = before_separator ++ bytes_of e.separator
 
     abbrev before_ending : List ℕ
-    before_ending = before_value ++ raw e.value
+    before_ending = before_value ++ bytes_of e.value
 
     long_separator : length before_separator ≡ key_to
-    long_separator = length-append before (e.prefix ++ raw e.key) ∙ omega (arith, long, length-append e.prefix (raw e.key))
+    long_separator = length-append before (e.prefix ++ bytes_of e.key) ∙ omega (arith, long, length-append e.prefix (bytes_of e.key))
 
     long_value : length before_value ≡ separator_to
-    long_value = length-append before_separator (raw e.separator) ∙ omega (arith, long_separator)
+    long_value = length-append before_separator (bytes_of e.separator) ∙ omega (arith, long_separator)
 
     long_ending : length before_ending ≡ value_to
-    long_ending = length-append before_value (raw e.value) ∙ omega (arith, long_value)
+    long_ending = length-append before_value (bytes_of e.value) ∙ omega (arith, long_value)
 
     key_leaf : slice_range bytes at (at + length e.prefix) ++ unwrap_or (leaf_edit edits (4 * n)) (slice_range bytes (at + length e.prefix) key_to) ≡ e.prefix ++ key_or old (spelled_key new) e
     key_leaf =
         let here : 4 * n ≡ 4 * (n + 0) = omega arith in
-        one_leaf at (at + length e.prefix) key_to before e.prefix (raw e.key) (raw e.separator ++ (raw e.value ++ (e.ending ++ left))) (picked old new e) (4 * n)
+        one_leaf at (at + length e.prefix) key_to before e.prefix (bytes_of e.key) (bytes_of e.separator ++ (bytes_of e.value ++ (e.ending ++ left))) (picked old new e) (4 * n)
         (all ∙ simp append_assoc) long refl refl (ap (leaf_edit edits) here ∙ are.key 0 (omega arith))
         ∙ ap (λ x. e.prefix ++ x) (picked_or e)
 
-    separator_leaf : slice_range bytes key_to (key_to + 0) ++ unwrap_or (leaf_edit edits (4 * n + 1)) (slice_range bytes (key_to + 0) separator_to) ≡ raw e.separator
+    separator_leaf : slice_range bytes key_to (key_to + 0) ++ unwrap_or (leaf_edit edits (4 * n + 1)) (slice_range bytes (key_to + 0) separator_to) ≡ bytes_of e.separator
     separator_leaf =
         let here : 4 * n + 1 ≡ 4 * (n + 0) + 1 = omega arith in
-        plain_leaf key_to (key_to + 0) separator_to before_separator (raw e.separator) (raw e.value ++ (e.ending ++ left)) (4 * n + 1)
+        plain_leaf key_to (key_to + 0) separator_to before_separator (bytes_of e.separator) (bytes_of e.value ++ (e.ending ++ left)) (4 * n + 1)
         (all ∙ simp append_assoc) long_separator refl refl (ap (leaf_edit edits) here ∙ are.others 0 1 (omega arith) (omega arith) (omega arith))
 
-    value_leaf : slice_range bytes separator_to (separator_to + 0) ++ unwrap_or (leaf_edit edits (4 * n + 1 + 1)) (slice_range bytes (separator_to + 0) value_to) ≡ raw e.value
+    value_leaf : slice_range bytes separator_to (separator_to + 0) ++ unwrap_or (leaf_edit edits (4 * n + 1 + 1)) (slice_range bytes (separator_to + 0) value_to) ≡ bytes_of e.value
     value_leaf =
         let here : 4 * n + 1 + 1 ≡ 4 * (n + 0) + 2 = omega arith in
-        plain_leaf separator_to (separator_to + 0) value_to before_value (raw e.value) (e.ending ++ left) (4 * n + 1 + 1)
+        plain_leaf separator_to (separator_to + 0) value_to before_value (bytes_of e.value) (e.ending ++ left) (4 * n + 1 + 1)
         (all ∙ simp append_assoc) long_value refl refl (ap (leaf_edit edits) here ∙ are.others 0 2 (omega arith) (omega arith) (omega arith))
 
     ending_leaf : slice_range bytes value_to (value_to + 0) ++ unwrap_or (leaf_edit edits (4 * n + 1 + 1 + 1)) (slice_range bytes (value_to + 0) (value_to + 0 + length e.ending)) ≡ e.ending
@@ -149,12 +149,12 @@ module _ (bytes old new : List ℕ) (edits : List Edit) where
         (all ∙ simp append_assoc) long_ending refl refl (ap (leaf_edit edits) here ∙ are.others 0 3 (omega arith) (omega arith) (omega arith))
 
     entry_new : (behind : List ℕ) → leaves_new edits bytes (4 * (n + 1)) (leaves_from (entry_end at e) es rest) ≡ behind
-        → leaves_new edits bytes (4 * n) (leaves_from at (e ∷ es) rest) ≡ (e.prefix ++ (key_or old (spelled_key new) e ++ (raw e.separator ++ (raw e.value ++ e.ending)))) ++ behind
+        → leaves_new edits bytes (4 * n) (leaves_from at (e ∷ es) rest) ≡ (e.prefix ++ (key_or old (spelled_key new) e ++ (bytes_of e.separator ++ (bytes_of e.value ++ e.ending)))) ++ behind
     unfolding leaves_new
     entry_new behind is =
         let next : 4 * n + 1 + 1 + 1 + 1 ≡ 4 * (n + 1) = omega arith in
         let more : leaves_new edits bytes (4 * n + 1 + 1 + 1 + 1) (leaves_from (entry_end at e) es rest) ≡ behind = ap (λ k. leaves_new edits bytes k (leaves_from (entry_end at e) es rest)) next ∙ is in
-        rw (key_leaf, separator_leaf, value_leaf, ending_leaf, more) (regrouped e.prefix (key_or old (spelled_key new) e) (raw e.separator) (raw e.value) e.ending behind)
+        rw (key_leaf, separator_leaf, value_leaf, ending_leaf, more) (regrouped e.prefix (key_or old (spelled_key new) e) (bytes_of e.separator) (bytes_of e.value) e.ending behind)
       where
         regrouped : (p k s v e r : List ℕ) → (p ++ k) ++ (s ++ (v ++ (e ++ r))) ≡ (p ++ (k ++ (s ++ (v ++ e)))) ++ r
         regrouped p k s v e r = simp append_assoc
@@ -165,10 +165,10 @@ module _ (bytes old new : List ℕ) (edits : List Edit) where
         ∙ omega (
           arith,
           long,
-          length-append e.prefix (raw e.key ++ (raw e.separator ++ (raw e.value ++ e.ending))),
-          length-append (raw e.key) (raw e.separator ++ (raw e.value ++ e.ending)),
-          length-append (raw e.separator) (raw e.value ++ e.ending),
-          length-append (raw e.value) e.ending,
+          length-append e.prefix (bytes_of e.key ++ (bytes_of e.separator ++ (bytes_of e.value ++ e.ending))),
+          length-append (bytes_of e.key) (bytes_of e.separator ++ (bytes_of e.value ++ e.ending)),
+          length-append (bytes_of e.separator) (bytes_of e.value ++ e.ending),
+          length-append (bytes_of e.value) e.ending,
         )
 
   end_new : (n at : ℕ) (before rest : List ℕ) → length before ≡ at → bytes ≡ before ++ rest → AreFor edits old new n [] → leaves_new edits bytes (4 * n) (leaves_from at [] rest) ≡ rest

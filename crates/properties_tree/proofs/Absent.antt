@@ -8,7 +8,7 @@ use Rattle.std.proofs.lemmas.Slice.Eq.{bytes_eq-Decides}
 use Rattle.std.specs.Str.{bytes_eq}
 use Rattle.memchr.specs.Find.{OccursAt, Nowhere, FindsNeedle}
 use Rattle.properties_tree.specs.Characters.{has_backslash}
-use Rattle.properties_tree.specs.Entries.{Entry, properties_of, no_entry, raw}
+use Rattle.properties_tree.specs.Entries.{Entry, properties_of, no_entry, bytes_of}
 use Rattle.properties_tree.specs.Decoding.{key_text}
 use Rattle.properties_tree.specs.Laws.{whole_entry, whole_of}
 use Rattle.properties_tree.specs.Keys.{key_or, entries_with, with_key}
@@ -24,12 +24,12 @@ occurs text a key b is = record {
 
 module _ (key w text : List ℕ) (no_slash : has_backslash text ≡ false) (nowhere : Nowhere (OccursAt text key) 0 (length text + 1)) where
   -- an entry keeps its key
-  own_key : (a b : List ℕ) (e : Entry) → text ≡ a ++ (raw e.key ++ b) → (has_backslash (raw e.key) ≡ false → key_text e ≡ raw e.key) → key_or key w e ≡ raw e.key
+  own_key : (a b : List ℕ) (e : Entry) → text ≡ a ++ (bytes_of e.key ++ b) → (has_backslash (bytes_of e.key) ≡ false → key_text e ≡ bytes_of e.key) → key_or key w e ≡ bytes_of e.key
   own_key a b e is plain =
       elim (cases_Bool (bytes_eq (key_text e) key)) [
         | inl same ↦
-            let none : has_backslash (raw e.key) ≡ false = (has_in-append (raw e.key) b (has_in-append a (raw e.key ++ b) (ap has_backslash (sym is) ∙ no_slash)).1).0 in
-            let said : raw e.key ≡ key = sym (plain none) ∙ (bytes_eq-Decides (key_text e) key).0 same in
+            let none : has_backslash (bytes_of e.key) ≡ false = (has_in-append (bytes_of e.key) b (has_in-append a (bytes_of e.key ++ b) (ap has_backslash (sym is) ∙ no_slash)).1).0 in
+            let said : bytes_of e.key ≡ key = sym (plain none) ∙ (bytes_eq-Decides (key_text e) key).0 same in
             let there : OccursAt text key (length a) = occurs text a key b (is ∙ ap (λ k. a ++ (k ++ b)) said) in
             let fits = there.fits in
             absurd (nowhere (length a) (omega arith) (omega arith) there)
@@ -37,12 +37,12 @@ module _ (key w text : List ℕ) (no_slash : has_backslash text ≡ false) (nowh
       ]
 
   all_own : (before : List ℕ) (es : List Entry) (rest : List ℕ) → text ≡ before ++ whole_of es rest
-      → ((k : ℕ) → k < length es → has_backslash (raw (get_or es k no_entry).key) ≡ false → key_text (get_or es k no_entry) ≡ raw (get_or es k no_entry).key)
+      → ((k : ℕ) → k < length es → has_backslash (bytes_of (get_or es k no_entry).key) ≡ false → key_text (get_or es k no_entry) ≡ bytes_of (get_or es k no_entry).key)
       → entries_with key w es rest ≡ whole_of es rest
   all_own before [] rest is plain = refl
   all_own before (e ∷ es) rest is plain =
-      let behind = raw e.separator ++ (raw e.value ++ e.ending) in
-      let here : key_or key w e ≡ raw e.key = own_key (before ++ e.prefix) (behind ++ whole_of es rest) e (is ∙ regrouped before e.prefix (raw e.key) behind (whole_of es rest)) (plain 0 (omega arith)) in
+      let behind = bytes_of e.separator ++ (bytes_of e.value ++ e.ending) in
+      let here : key_or key w e ≡ bytes_of e.key = own_key (before ++ e.prefix) (behind ++ whole_of es rest) e (is ∙ regrouped before e.prefix (bytes_of e.key) behind (whole_of es rest)) (plain 0 (omega arith)) in
       let more : entries_with key w es rest ≡ whole_of es rest = all_own (before ++ whole_entry e) es rest (is ∙ sym (append_assoc before (whole_entry e) (whole_of es rest))) (λ k h. plain (suc k) (omega arith)) in
       ap (λ k. (e.prefix ++ (k ++ behind)) ++ entries_with key w es rest) here ∙ ap (λ t. whole_entry e ++ t) more
     where

@@ -3,8 +3,8 @@ use Rattle.std.proofs.Common.{ℕ, ◌+◌, ◌≤◌, Bool, true, false, List, 
 use Rattle.std.specs.Prelude.{◌==◌}
 use Rattle.std.proofs.lemmas.Bool.{cases_Bool}
 use Rattle.rw_base.specs.NaturalLines.{Line, lines_of, with_text, with_ending, begins_with_lf, whole_line}
-use Rattle.properties_tree.specs.Lines.{is_passed_over, goes_on}
-use Rattle.properties_tree.specs.Entries.{Logical, passed, entry, grouped, logical_lines, entries_of, properties_of}
+use Rattle.properties_tree.specs.Lines.{is_passed_over, is_continued}
+use Rattle.properties_tree.specs.Entries.{LogicalLine, passed, entry, group_lines, logical_lines, entries_of, properties_of}
 use Rattle.properties_tree.specs.Laws.{FilesHaveTrees, EntriesHaveFourLeaves}
 use Rattle.properties_tree.specs.Layout.{tree_of}
 use Rattle.properties_tree.proofs.Made.{tree_made, length-leaves_from}
@@ -33,16 +33,16 @@ length-lines_of (b ∷ rest) =
       ]
     ]
 
-length-grouped : (going : Bool) (lines : List Line) → length (grouped going lines).1 ≤ length lines
-unfolding grouped
+length-grouped : (going : Bool) (lines : List Line) → length (group_lines going lines).1 ≤ length lines
+unfolding group_lines
 length-grouped going [] = omega arith
-length-grouped true (line ∷ lines) = omega (arith, length-grouped (goes_on line.text) lines)
+length-grouped true (line ∷ lines) = omega (arith, length-grouped (is_continued line.text) lines)
 length-grouped false (line ∷ lines) = elim (cases_Bool (is_passed_over line)) [
   | inl over ↦ rw over (omega (arith, length-grouped false lines))
-  | inr begins ↦ rw begins (omega (arith, length-grouped (goes_on line.text) lines))
+  | inr begins ↦ rw begins (omega (arith, length-grouped (is_continued line.text) lines))
 ]
 
-length-entries_of : (before : List ℕ) (lines : List Logical) → length (entries_of before lines).entries ≤ length lines
+length-entries_of : (before : List ℕ) (lines : List LogicalLine) → length (entries_of before lines).entries ≤ length lines
 unfolding entries_of
 length-entries_of before [] = omega arith
 length-entries_of before (passed line ∷ lines) = omega (arith, length-entries_of (before ++ whole_line line) lines)

@@ -5,9 +5,9 @@ use Rattle.std.proofs.lemmas.Bool.{cases_Bool, false≢true, eqb-true}
 use Rattle.std.proofs.lemmas.List.{take-append-drop, take_at, drop_at, length-take-le}
 use Rattle.properties_tree.specs.Characters.{is_line_end, is_blank, is_separator, ends_key, backslash}
 use Rattle.rw_base.specs.NaturalLines.{begins_with_lf}
-use Rattle.properties_tree.specs.Lines.{leading_blanks, unblanked}
-use Rattle.properties_tree.specs.Entries.{Piece, char, joint, raw, meant, through, key_length}
-use Rattle.properties_tree.proofs.Lengths.{unblanked_is, leading_is, blanks-le}
+use Rattle.properties_tree.specs.Lines.{leading_blanks, behind_blanks}
+use Rattle.properties_tree.specs.Entries.{Piece, char, joint, bytes_of, characters_of, take_characters, key_length}
+use Rattle.properties_tree.proofs.Lengths.{behind_blanks_is, leading_is, blanks-le}
 use Rattle.properties_tree.specs.Cutting.{joins, joint_size, pieces_behind, pieces_in, key_front, separator_front, separator_from}
 
 -- ---- one piece more
@@ -83,8 +83,8 @@ Meets (b ∷ x) (c ∷ y) = b ≡ c
 -- These pieces are what a front of a text says, whatever stands behind it that begins as the text does there.
 pub record IsFront (s : List ℕ) (done : List Piece) : Type 0 where
   pub back : List ℕ
-  pub text : s ≡ raw done ++ back
-  alone : (x : List ℕ) → Meets x back → pieces_in (raw done ++ x) ≡ done ++ pieces_in x
+  pub text : s ≡ bytes_of done ++ back
+  alone : (x : List ℕ) → Meets x back → pieces_in (bytes_of done ++ x) ≡ done ++ pieces_in x
 
 meets_same : (y : List ℕ) → Meets y y
 unfolding Meets
@@ -100,20 +100,20 @@ module _ (s : List ℕ) (done : List Piece) (front : IsFront s done) where
   unfolding_back : pieces_in s ≡ done ++ pieces_in front.back
   unfolding_back = ap pieces_in front.text ∙ front.alone front.back (meets_same front.back)
 
-  back_is : front.back ≡ drop (length (raw done)) s
-  back_is = sym (ap (drop (length (raw done))) front.text ∙ drop_at (raw done) front.back (length (raw done)) refl)
+  back_is : front.back ≡ drop (length (bytes_of done)) s
+  back_is = sym (ap (drop (length (bytes_of done))) front.text ∙ drop_at (bytes_of done) front.back (length (bytes_of done)) refl)
 
   -- the pieces behind the front are those of the text behind it
-  pub pieces-behind : pieces_in s ≡ done ++ pieces_in (drop (length (raw done)) s)
+  pub pieces-behind : pieces_in s ≡ done ++ pieces_in (drop (length (bytes_of done)) s)
   pieces-behind = unfolding_back ∙ ap (λ t. done ++ pieces_in t) back_is
 
   -- the front's bytes alone say the same pieces
-  pub pieces-alone : pieces_in (raw done) ≡ done
+  pub pieces-alone : pieces_in (bytes_of done) ≡ done
   unfolding Meets
-  pieces-alone = ap pieces_in (sym (append-nil (raw done))) ∙ (front.alone [] tt ∙ (ap (λ ps. done ++ ps) at_none ∙ append-nil done))
+  pieces-alone = ap pieces_in (sym (append-nil (bytes_of done))) ∙ (front.alone [] tt ∙ (ap (λ ps. done ++ ps) at_none ∙ append-nil done))
 
-  pub front_length : length (raw done) ≤ length s
-  front_length = let all = ap length front.text in let parts = length-append (raw done) front.back in omega arith
+  pub front_length : length (bytes_of done) ≤ length s
+  front_length = let all = ap length front.text in let parts = length-append (bytes_of done) front.back in omega arith
 
 -- ---- the same front of a longer or shorter text has the same joint
 
@@ -128,7 +128,7 @@ unfolding Meets
 blanks_none [] b u other m = refl
 blanks_none (c ∷ x) b u other m = rw (ap is_blank m ∙ other) refl
 
-blanks_stop : (u x : List ℕ) → Meets x (unblanked u) → length (leading_blanks (leading_blanks u ++ x)) ≡ length (leading_blanks u)
+blanks_stop : (u x : List ℕ) → Meets x (behind_blanks u) → length (leading_blanks (leading_blanks u ++ x)) ≡ length (leading_blanks u)
 blanks_stop [] x m = ap (λ t. length (leading_blanks t)) (meets_none x m)
 blanks_stop (b ∷ u) x m =
     elim (cases_Bool (is_blank b)) [
@@ -141,7 +141,7 @@ unfolding Meets
 first_no_lf [] b u none m = refl
 first_no_lf (c ∷ x) b u none m = ap (λ k. k == 10) m ∙ none
 
-no_lf : (u x : List ℕ) → begins_with_lf u ≡ false → Meets x (unblanked u) → begins_with_lf (leading_blanks u ++ x) ≡ false
+no_lf : (u x : List ℕ) → begins_with_lf u ≡ false → Meets x (behind_blanks u) → begins_with_lf (leading_blanks u ++ x) ≡ false
 no_lf [] x none m = ap begins_with_lf (meets_none x m)
 no_lf (b ∷ u) x none m =
     elim (cases_Bool (is_blank b)) [
@@ -166,8 +166,8 @@ record Stays (r x : List ℕ) : Type 0 where
   fits : joint_size r ≤ length r
 
 module _ (u x : List ℕ) (m : Meets x (drop (length (leading_blanks u)) u)) where
-  met : Meets x (unblanked u)
-  met = subst (Meets x) (sym (unblanked_is u)) m
+  met : Meets x (behind_blanks u)
+  met = subst (Meets x) (sym (behind_blanks_is u)) m
 
   same_blanks : length (leading_blanks (take (length (leading_blanks u)) u ++ x)) ≡ length (leading_blanks u)
   same_blanks = ap (λ t. length (leading_blanks (t ++ x))) (sym (leading_is u)) ∙ blanks_stop u x met
@@ -228,14 +228,14 @@ pub one_char : (b : ℕ) (rest : List ℕ) (done : List Piece) → is_line_end b
 one_char b rest done inside other more = record {
   back = more.back;
   text = ap (λ t. b ∷ t) more.text;
-  alone = λ x m. at_char b (raw done ++ x) inside other ∙ ap (λ ps. char b ∷ ps) (more.alone x m);
+  alone = λ x m. at_char b (bytes_of done ++ x) inside other ∙ ap (λ ps. char b ∷ ps) (more.alone x m);
 }
 
 pub one_pair : (b c : ℕ) (rest : List ℕ) (done : List Piece) → (b == 92) ≡ true → is_line_end c ≡ false → IsFront rest done → IsFront (b ∷ c ∷ rest) (char b ∷ char c ∷ done)
 one_pair b c rest done slash inside more = record {
   back = more.back;
   text = ap (λ t. b ∷ c ∷ t) more.text;
-  alone = λ x m. at_pair b c (raw done ++ x) slash inside ∙ ap (λ ps. char b ∷ char c ∷ ps) (more.alone x m);
+  alone = λ x m. at_pair b c (bytes_of done ++ x) slash inside ∙ ap (λ ps. char b ∷ char c ∷ ps) (more.alone x m);
 }
 
 pub one_joint : (b : ℕ) (rest : List ℕ) (done : List Piece) → (b == 92) ≡ true → joins rest ≡ true → IsFront (drop (joint_size rest) rest) done
@@ -245,17 +245,17 @@ one_joint b rest done slash j more =
     let here = eqb-true b 92 slash in
     record {
       back = more.back;
-      text = ap (λ c. c ∷ rest) here ∙ ap (λ t. 92 ∷ t) (sym (take-append-drop k rest) ∙ (ap (λ t. take k rest ++ t) more.text ∙ sym (append_assoc (take k rest) (raw done) more.back)));
+      text = ap (λ c. c ∷ rest) here ∙ ap (λ t. 92 ∷ t) (sym (take-append-drop k rest) ∙ (ap (λ t. take k rest ++ t) more.text ∙ sym (append_assoc (take k rest) (bytes_of done) more.back)));
       alone = λ x m.
-          let m' : Meets (raw done ++ x) (drop k rest) = subst (Meets (raw done ++ x)) (sym more.text) (meets_behind x more.back (raw done) m) in
-          let r = take k rest ++ (raw done ++ x) in
-          let same = (stays rest (raw done ++ x) j m').size in
+          let m' : Meets (bytes_of done ++ x) (drop k rest) = subst (Meets (bytes_of done ++ x)) (sym more.text) (meets_behind x more.back (bytes_of done) m) in
+          let r = take k rest ++ (bytes_of done ++ x) in
+          let same = (stays rest (bytes_of done ++ x) j m').size in
           let long = length-take-le k rest (joint_size-le rest j) in
-          ap (λ t. pieces_in (92 ∷ t)) (append_assoc (take k rest) (raw done) x)
-          ∙ (at_joint 92 r refl (stays rest (raw done ++ x) j m').still
+          ap (λ t. pieces_in (92 ∷ t)) (append_assoc (take k rest) (bytes_of done) x)
+          ∙ (at_joint 92 r refl (stays rest (bytes_of done ++ x) j m').still
           ∙ (ap (λ n. joint (backslash ∷ take n r) ∷ pieces_in (drop n r)) same
-          ∙ (ap (λ t. joint (backslash ∷ t) ∷ pieces_in (drop k r)) (take_at (take k rest) (raw done ++ x) k long)
-          ∙ (ap (λ t. joint (backslash ∷ take k rest) ∷ pieces_in t) (drop_at (take k rest) (raw done ++ x) k long)
+          ∙ (ap (λ t. joint (backslash ∷ t) ∷ pieces_in (drop k r)) (take_at (take k rest) (bytes_of done ++ x) k long)
+          ∙ (ap (λ t. joint (backslash ∷ take k rest) ∷ pieces_in t) (drop_at (take k rest) (bytes_of done ++ x) k long)
           ∙ ap (λ ps. joint (backslash ∷ take k rest) ∷ ps) (more.alone x m)))));
     }
 
@@ -269,10 +269,10 @@ line_front (b ∷ rest) (by_joint {next = next} slash j e more) =
     subst (IsFront (b ∷ rest)) (sym (at_joint b rest slash j)) (one_joint b rest (pieces_in (drop (joint_size rest) rest)) slash j (subst (λ t. IsFront t (pieces_in t)) e (line_front next more)))
 
 -- so is the key
-front_or_none : (b : ℕ) (rest : List ℕ) (n : ℕ) → (b == 92) ≡ true → joins rest ≡ true → IsFront (drop (joint_size rest) rest) (through n (pieces_in (drop (joint_size rest) rest)))
-    → IsFront (b ∷ rest) (through n (joint (backslash ∷ take (joint_size rest) rest) ∷ pieces_in (drop (joint_size rest) rest)))
+front_or_none : (b : ℕ) (rest : List ℕ) (n : ℕ) → (b == 92) ≡ true → joins rest ≡ true → IsFront (drop (joint_size rest) rest) (take_characters n (pieces_in (drop (joint_size rest) rest)))
+    → IsFront (b ∷ rest) (take_characters n (joint (backslash ∷ take (joint_size rest) rest) ∷ pieces_in (drop (joint_size rest) rest)))
 front_or_none b rest zero slash j more = no_piece (b ∷ rest)
-front_or_none b rest (suc n) slash j more = one_joint b rest (through (suc n) (pieces_in (drop (joint_size rest) rest))) slash j more
+front_or_none b rest (suc n) slash j more = one_joint b rest (take_characters (suc n) (pieces_in (drop (joint_size rest) rest))) slash j more
 
 pub key_is_front : (s : List ℕ) → IsCut s → IsFront s (key_front (pieces_in s))
 key_is_front [] nothing = subst (λ ps. IsFront [] (key_front ps)) (sym at_none) (no_piece [])
@@ -287,7 +287,7 @@ key_is_front (b ∷ c ∷ rest) (by_pair slash inside more) =
     subst (λ ps. IsFront (b ∷ c ∷ rest) (key_front ps)) (sym (at_pair b c rest slash inside)) (rw slash (one_pair b c rest (key_front (pieces_in rest)) slash inside (key_is_front rest more)))
 key_is_front (b ∷ rest) (by_joint {next = next} slash j e more) =
     subst (λ ps. IsFront (b ∷ rest) (key_front ps)) (sym (at_joint b rest slash j))
-    (front_or_none b rest (key_length (meant (pieces_in (drop (joint_size rest) rest)))) slash j (subst (λ t. IsFront t (key_front (pieces_in t))) e (key_is_front next more)))
+    (front_or_none b rest (key_length (characters_of (pieces_in (drop (joint_size rest) rest)))) slash j (subst (λ t. IsFront t (key_front (pieces_in t))) e (key_is_front next more)))
 
 separator_pair : (marked : Bool) (c : ℕ) (ps : List Piece) (s : List ℕ) → IsFront s (separator_front marked (char 92 ∷ char c ∷ ps))
 separator_pair true c ps s = no_piece s
@@ -312,4 +312,4 @@ separator_is_front marked (b ∷ c ∷ rest) (by_pair slash inside more) =
     (subst (λ k. IsFront (b ∷ c ∷ rest) (separator_front marked (char k ∷ char c ∷ pieces_in rest))) (sym here) (separator_pair marked c (pieces_in rest) (b ∷ c ∷ rest)))
 separator_is_front marked (b ∷ rest) (by_joint {next = next} slash j e more) =
     subst (λ ps. IsFront (b ∷ rest) (separator_front marked ps)) (sym (at_joint b rest slash j))
-    (front_or_none b rest (separator_from marked (meant (pieces_in (drop (joint_size rest) rest)))) slash j (subst (λ t. IsFront t (separator_front marked (pieces_in t))) e (separator_is_front marked next more)))
+    (front_or_none b rest (separator_from marked (characters_of (pieces_in (drop (joint_size rest) rest)))) slash j (subst (λ t. IsFront t (separator_front marked (pieces_in t))) e (separator_is_front marked next more)))

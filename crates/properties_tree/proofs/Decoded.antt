@@ -2,8 +2,8 @@
 use Rattle.std.proofs.Common.{◌≡◌, ℕ, zero, suc, ◌+◌, ◌<◌, ◌≤◌, true, false, List, [], ◌∷◌, ◌++◌, length, get_or, drop, Option, Some, None, refl, sym, ◌∙◌, ap, arith, append_assoc, append-nil}
 use Rattle.std.specs.Prelude.{◌==◌, ◌&&◌, encode_utf8}
 use Rattle.std.proofs.lemmas.List.{drop_more, drop_all, drop-drop}
-use Rattle.properties_tree.specs.Decoding.{Element, byte, code, Escape, escape_of, escaped, four_hex, elements_behind, elements_of, text_of, lone, pair_of, is_high, is_low}
-use Rattle.properties_tree.specs.Steps.{Takes, GoesOn, waiting}
+use Rattle.properties_tree.specs.Decoding.{Element, byte, code, Escape, escape_of, escaped_byte, four_hex, elements_behind, elements_of, utf8_of, lone_bytes, pair_of, is_high, is_low}
+use Rattle.properties_tree.specs.Steps.{Takes, AddsCode, waiting_elements}
 
 elements_behind-drop : (n : ℕ) (s : List ℕ) → elements_behind n s ≡ elements_of (drop n s)
 unfolding elements_behind
@@ -45,7 +45,7 @@ module _ (s : List ℕ) (at : ℕ) (inside : at < length s) where
       }
 
 -- what an escape is, by the character behind its backslash
-pub escape_other : (r : List ℕ) → 0 < length r → (get_or r 0 0 == 117) ≡ false → escape_of r ≡ record { elements = byte (escaped (get_or r 0 0)) ∷ []; size = 1 }
+pub escape_other : (r : List ℕ) → 0 < length r → (get_or r 0 0 == 117) ≡ false → escape_of r ≡ record { elements = byte (escaped_byte (get_or r 0 0)) ∷ []; size = 1 }
 escape_other [] some other = absurd (omega arith)
 escape_other (b ∷ rest) some other = rw other refl
 
@@ -59,50 +59,50 @@ escape_u (b ∷ rest) some here none = rw (here, none) refl
 
 -- ---- code units
 
-pub no_code : text_of [] ≡ []
-unfolding text_of
+pub no_code : utf8_of [] ≡ []
+unfolding utf8_of
 no_code = refl
 
-pub lone_code : (u : ℕ) → text_of (code u ∷ []) ≡ lone u
-unfolding text_of
+pub lone_code : (u : ℕ) → utf8_of (code u ∷ []) ≡ lone_bytes u
+unfolding utf8_of
 lone_code u = refl
 
-pub waits : (out : List ℕ) (u : ℕ) → GoesOn out None u out (Some u)
+pub waits : (out : List ℕ) (u : ℕ) → AddsCode out None u out (Some u)
 waits out u es = refl
 
-pub pairs : (out : List ℕ) (h u : ℕ) → is_high h ≡ true → is_low u ≡ true → GoesOn out (Some h) u (out ++ encode_utf8 (pair_of h u)) None
-unfolding text_of
-pairs out h u high low es = rw (high, low) (sym (append_assoc out (encode_utf8 (pair_of h u)) (text_of es)))
+pub pairs : (out : List ℕ) (h u : ℕ) → is_high h ≡ true → is_low u ≡ true → AddsCode out (Some h) u (out ++ encode_utf8 (pair_of h u)) None
+unfolding utf8_of
+pairs out h u high low es = rw (high, low) (sym (append_assoc out (encode_utf8 (pair_of h u)) (utf8_of es)))
 
-pub parts : (out : List ℕ) (h u : ℕ) → (is_high h && is_low u) ≡ false → GoesOn out (Some h) u (out ++ lone h) (Some u)
-unfolding text_of
-parts out h u apart es = rw apart (sym (append_assoc out (lone h) (text_of (code u ∷ es))))
+pub parts : (out : List ℕ) (h u : ℕ) → (is_high h && is_low u) ≡ false → AddsCode out (Some h) u (out ++ lone_bytes h) (Some u)
+unfolding utf8_of
+parts out h u apart es = rw apart (sym (append_assoc out (lone_bytes h) (utf8_of (code u ∷ es))))
 
 pub ruleset over_codes = (no_code, lone_code, waits, pairs, parts)
 
 -- ---- bytes
 
-byte_written : (pending : Option ℕ) (b : ℕ) (es : List Element) → text_of (waiting pending ++ byte b ∷ es) ≡ text_of (waiting pending) ++ b ∷ text_of es
-unfolding text_of
+byte_written : (pending : Option ℕ) (b : ℕ) (es : List Element) → utf8_of (waiting_elements pending ++ byte b ∷ es) ≡ utf8_of (waiting_elements pending) ++ b ∷ utf8_of es
+unfolding utf8_of
 byte_written None b es = refl
 byte_written (Some u) b es = refl
 
 module _ (s out : List ℕ) (at : ℕ) (pending : Option ℕ) where
   pub took_byte : (b n : ℕ) → Takes s at n (byte b ∷ [])
-      → out ++ text_of (waiting pending ++ elements_of (drop at s)) ≡ ((out ++ text_of (waiting pending)) ++ b ∷ []) ++ text_of (waiting None ++ elements_of (drop (at + n) s))
+      → out ++ utf8_of (waiting_elements pending ++ elements_of (drop at s)) ≡ ((out ++ utf8_of (waiting_elements pending)) ++ b ∷ []) ++ utf8_of (waiting_elements None ++ elements_of (drop (at + n) s))
   took_byte b n takes =
-      ap (λ es. out ++ text_of (waiting pending ++ es)) takes.elements
+      ap (λ es. out ++ utf8_of (waiting_elements pending ++ es)) takes.elements
       ∙ (ap (λ t. out ++ t) (byte_written pending b (elements_of (drop (at + n) s)))
-      ∙ (sym (append_assoc out (text_of (waiting pending)) (b ∷ text_of (elements_of (drop (at + n) s)))) ∙ sym (append_assoc (out ++ text_of (waiting pending)) (b ∷ []) (text_of (elements_of (drop (at + n) s))))))
+      ∙ (sym (append_assoc out (utf8_of (waiting_elements pending)) (b ∷ utf8_of (elements_of (drop (at + n) s)))) ∙ sym (append_assoc (out ++ utf8_of (waiting_elements pending)) (b ∷ []) (utf8_of (elements_of (drop (at + n) s))))))
 
-  pub took_code : (u n : ℕ) (after : List ℕ) (next : Option ℕ) → Takes s at n (code u ∷ []) → GoesOn out pending u after next
-      → out ++ text_of (waiting pending ++ elements_of (drop at s)) ≡ after ++ text_of (waiting next ++ elements_of (drop (at + n) s))
-  took_code u n after next takes goes = ap (λ es. out ++ text_of (waiting pending ++ es)) takes.elements ∙ goes (elements_of (drop (at + n) s))
+  pub took_code : (u n : ℕ) (after : List ℕ) (next : Option ℕ) → Takes s at n (code u ∷ []) → AddsCode out pending u after next
+      → out ++ utf8_of (waiting_elements pending ++ elements_of (drop at s)) ≡ after ++ utf8_of (waiting_elements next ++ elements_of (drop (at + n) s))
+  took_code u n after next takes goes = ap (λ es. out ++ utf8_of (waiting_elements pending ++ es)) takes.elements ∙ goes (elements_of (drop (at + n) s))
 
-  pub took_nothing : elements_of (drop at s) ≡ [] → out ++ text_of (waiting pending ++ elements_of (drop at s)) ≡ out ++ text_of (waiting pending ++ elements_of (drop (length s) s))
-  took_nothing none = ap (λ es. out ++ text_of (waiting pending ++ es)) (none ∙ sym (ap elements_of (drop_all (length s) s (omega arith)) ∙ none_said))
+  pub took_nothing : elements_of (drop at s) ≡ [] → out ++ utf8_of (waiting_elements pending ++ elements_of (drop at s)) ≡ out ++ utf8_of (waiting_elements pending ++ elements_of (drop (length s) s))
+  took_nothing none = ap (λ es. out ++ utf8_of (waiting_elements pending ++ es)) (none ∙ sym (ap elements_of (drop_all (length s) s (omega arith)) ∙ none_said))
 
-  pub took_all : length s ≤ at → out ++ text_of (waiting pending ++ elements_of (drop at s)) ≡ out ++ text_of (waiting pending)
-  took_all h = ap (λ es. out ++ text_of (waiting pending ++ es)) (ap elements_of (drop_all at s h) ∙ none_said) ∙ ap (λ es. out ++ text_of es) (append-nil (waiting pending))
+  pub took_all : length s ≤ at → out ++ utf8_of (waiting_elements pending ++ elements_of (drop at s)) ≡ out ++ utf8_of (waiting_elements pending)
+  took_all h = ap (λ es. out ++ utf8_of (waiting_elements pending ++ es)) (ap elements_of (drop_all at s h) ∙ none_said) ∙ ap (λ es. out ++ utf8_of es) (append-nil (waiting_elements pending))
 
 pub ruleset over_steps = (took_byte, took_code, took_nothing, took_all)

@@ -3,10 +3,10 @@ use Rattle.std.proofs.Common.{◌≡◌, ℕ, ◌+◌, ◌-◌, ◌<◌, ◌≤�
 use Rattle.std.proofs.lemmas.Bool.{cases_Bool, false≢true, or_parts}
 use Rattle.std.proofs.lemmas.List.{take_rest, drop-drop, length-take-le}
 use Rattle.properties_tree.specs.Characters.{is_line_end, is_comment_mark}
-use Rattle.properties_tree.specs.Lines.{leading_blanks, unblanked, is_empty_or_comment}
+use Rattle.properties_tree.specs.Lines.{leading_blanks, behind_blanks, is_empty_or_comment}
 use Rattle.properties_tree.specs.Sizes.{text_length, ending_length, begins_no_entry, entries_from, with_entry, BeginsPassed, BeginsEntry}
 use Rattle.properties_tree.specs.Cutting.{pieces_in, key_front, separator_front, key_size, separator_size, line_size}
-use Rattle.properties_tree.proofs.Lengths.{unblanked_is, leading_is}
+use Rattle.properties_tree.proofs.Lengths.{behind_blanks_is, leading_is}
 use Rattle.properties_tree.proofs.FirstLine.{line_text, behind_text, ending_text, some_line}
 use Rattle.properties_tree.proofs.Plain.{passes}
 use Rattle.properties_tree.proofs.Cut.{cut, IsCut, nothing, ended, by_char, by_pair, by_joint, at_char, at_pair, at_joint}
@@ -18,8 +18,8 @@ no_entry_begins [] = refl
 no_entry_begins (b ∷ rest) = elim (cases_Bool (is_line_end b)) [ inl e ↦ rw e refl | inr e ↦ rw e refl ]
 
 -- whether a line is passed over, by what stands behind its blanks
-pub passed_over : (s : List ℕ) → is_empty_or_comment (unblanked (line_text s)) ≡ begins_no_entry (unblanked s)
-passed_over s = ap is_empty_or_comment (blanked s).text ∙ no_entry_begins (unblanked s)
+pub passed_over : (s : List ℕ) → is_empty_or_comment (behind_blanks (line_text s)) ≡ begins_no_entry (behind_blanks s)
+passed_over s = ap is_empty_or_comment (blanked s).text ∙ no_entry_begins (behind_blanks s)
 
 some_pieces : (u : List ℕ) → IsCut u → begins_no_entry u ≡ false → 0 < line_size u
 some_pieces [] nothing starts = absurd (false≢true (sym starts))
@@ -39,7 +39,7 @@ module _ (s : List ℕ) (some : 0 < length s) where
       let left : length (take (length s - n) (drop n s)) ≡ length s - n = ap length rest ∙ length-drop n s in
       let ending : e ≡ ending_length (behind_text s) = e_is ∙ (ap ending_length rest ∙ ap (λ k. ending_length (drop k s)) n_is) in
       let whole : n + e ≡ text_length s + ending_length (behind_text s) = rw (n_is, ending) refl in
-      let line : take (length s - b) (drop b s) ≡ unblanked s = take_rest s b ∙ (ap (λ k. drop k s) b_is ∙ sym (unblanked_is s)) in
+      let line : take (length s - b) (drop b s) ≡ behind_blanks s = take_rest s b ∙ (ap (λ k. drop k s) b_is ∙ sym (behind_blanks_is s)) in
       record {
         some = rw whole (some_line s some);
         inside = omega arith;
@@ -62,10 +62,10 @@ module _ (s : List ℕ) (some : 0 < length s) where
     module _ (starts : begins_no_entry line ≡ false) (k_is : k ≡ key_size line) (k_in : k ≤ length line) (m_is : m ≡ separator_size after_key) (m_in : m ≤ length after_key)
         (v_is : v ≡ line_size after_separator) (v_in : v ≤ length after_separator) (e_is : e ≡ ending_length after_value) (e_in : e ≤ length after_value) where
       abbrev u : List ℕ
-      u = unblanked s
+      u = behind_blanks s
 
       line_is : line ≡ u
-      line_is = take_rest s b ∙ (ap (λ n. drop n s) b_is ∙ sym (unblanked_is s))
+      line_is = take_rest s b ∙ (ap (λ n. drop n s) b_is ∙ sym (behind_blanks_is s))
 
       key_is : after_key ≡ behind_key u
       key_is = take_rest line k ∙ (ap (λ n. drop n line) k_is ∙ ap (λ x. drop (key_size x) x) line_is)
@@ -104,7 +104,7 @@ module _ (s : List ℕ) (some : 0 < length s) where
           let total : b + (line_size u + e) ≡ b + k + m + v + e = omega (arith, line_total) in
           ap (λ n. drop n (behind_entry s)) (sym e_size)
           ∙ (drop-drop e (line_size u) u
-          ∙ (ap (drop (line_size u + e)) (unblanked_is s ∙ ap (λ n. drop n s) (sym b_is))
+          ∙ (ap (drop (line_size u + e)) (behind_blanks_is s ∙ ap (λ n. drop n s) (sym b_is))
           ∙ (drop-drop (line_size u + e) b s ∙ ap (λ n. drop n s) total)))
 
       pub entry_found : BeginsEntry s (record { blanks = b; key = k; separator = m; value = v; ending = e })

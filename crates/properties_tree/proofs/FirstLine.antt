@@ -5,7 +5,7 @@ use Rattle.std.proofs.lemmas.Bool.{cases_Bool, eqb-true}
 use Rattle.std.proofs.lemmas.List.{append-nil}
 use Rattle.properties_tree.specs.Characters.{is_line_end}
 use Rattle.rw_base.specs.NaturalLines.{Line, begins_with_lf, lines_of}
-use Rattle.properties_tree.specs.Entries.{entries_of, grouped, logical_lines}
+use Rattle.properties_tree.specs.Entries.{entries_of, group_lines, logical_lines}
 use Rattle.properties_tree.specs.Sizes.{text_length, ending_length, entries_from}
 
 -- the line end that a text begins with, and the lines behind it
@@ -84,7 +84,7 @@ some_line (b ∷ rest) h =
 
 -- the entries of the lines behind a line are those of the text behind it
 pub entries_behind : (before t : List ℕ) → (ending_length t ≡ 0 → t ≡ []) → entries_of before (logical_lines (lines_behind t)) ≡ entries_from before (drop (ending_length t) t)
-unfolding entries_from entries_of grouped lines_of
+unfolding entries_from entries_of group_lines lines_of
 entries_behind before t at_end =
     elim (cases_Bool (ending_length t == 0)) [
       | inl e ↦ let zero = eqb-true (ending_length t) 0 e in rw e (rw (zero, at_end zero) (ap (λ (r : List ℕ). record { entries = []; rest = r }) (sym (append-nil before))))

@@ -6,7 +6,7 @@ use Rattle.rw_base.specs.declared.tree.Leaf.{Leaf}
 use Rattle.rw_base.specs.declared.tree.NodeRow.{NodeRow}
 use Rattle.rw_base.specs.declared.tree.Part.{Part}
 use Rattle.rw_base.specs.declared.tree.Part.TheVariants as part
-use Rattle.properties_tree.specs.Entries.{Entry, Properties, properties_of, entries_of, grouped, raw}
+use Rattle.properties_tree.specs.Entries.{Entry, Properties, properties_of, entries_of, group_lines, bytes_of}
 use Rattle.rw_base.specs.NaturalLines.{lines_of}
 use Rattle.properties_tree.specs.Layout.{leaves_from, leaf_from, entry_leaves, entry_end, entry_row, entry_rows, entry_parts, file_row, tree_of}
 use Rattle.properties_tree.specs.Reading.{IsRead, leaves_at, left_of, numbered_parts}
@@ -42,16 +42,16 @@ prefix_length : (bytes : List ℕ) (from at : ℕ) → from ≤ at → at ≤ le
 prefix_length bytes from at ordered inside = length-take-le (at - from) (drop from bytes) (simp length-drop (omega arith))
 
 -- the leaves of an entry whose parts have these sizes
-leaves_same : (from at : ℕ) (e : Entry) (z : Sizes) → from + length e.prefix ≡ at + z.blanks → length (raw e.key) ≡ z.key → length (raw e.separator) ≡ z.separator → length (raw e.value) ≡ z.value → length e.ending ≡ z.ending
+leaves_same : (from at : ℕ) (e : Entry) (z : Sizes) → from + length e.prefix ≡ at + z.blanks → length (bytes_of e.key) ≡ z.key → length (bytes_of e.separator) ≡ z.separator → length (bytes_of e.value) ≡ z.value → length e.ending ≡ z.ending
     → entry_leaves from e ≡ leaves_at from at z
 leaves_same from at e z prefix key separator value ending =
-    let a : from + length e.prefix + length (raw e.key) ≡ at + z.blanks + z.key = omega arith in
-    let a0 : from + length e.prefix + length (raw e.key) + 0 ≡ at + z.blanks + z.key = omega arith in
-    let b : from + length e.prefix + length (raw e.key) + 0 + length (raw e.separator) ≡ at + z.blanks + z.key + z.separator = omega arith in
-    let b0 : from + length e.prefix + length (raw e.key) + 0 + length (raw e.separator) + 0 ≡ at + z.blanks + z.key + z.separator = omega arith in
-    let v : from + length e.prefix + length (raw e.key) + 0 + length (raw e.separator) + 0 + length (raw e.value) ≡ at + z.blanks + z.key + z.separator + z.value = omega arith in
-    let v0 : from + length e.prefix + length (raw e.key) + 0 + length (raw e.separator) + 0 + length (raw e.value) + 0 ≡ at + z.blanks + z.key + z.separator + z.value = omega arith in
-    let t : from + length e.prefix + length (raw e.key) + 0 + length (raw e.separator) + 0 + length (raw e.value) + 0 + length e.ending ≡ at + z.blanks + z.key + z.separator + z.value + z.ending = omega arith in
+    let a : from + length e.prefix + length (bytes_of e.key) ≡ at + z.blanks + z.key = omega arith in
+    let a0 : from + length e.prefix + length (bytes_of e.key) + 0 ≡ at + z.blanks + z.key = omega arith in
+    let b : from + length e.prefix + length (bytes_of e.key) + 0 + length (bytes_of e.separator) ≡ at + z.blanks + z.key + z.separator = omega arith in
+    let b0 : from + length e.prefix + length (bytes_of e.key) + 0 + length (bytes_of e.separator) + 0 ≡ at + z.blanks + z.key + z.separator = omega arith in
+    let v : from + length e.prefix + length (bytes_of e.key) + 0 + length (bytes_of e.separator) + 0 + length (bytes_of e.value) ≡ at + z.blanks + z.key + z.separator + z.value = omega arith in
+    let v0 : from + length e.prefix + length (bytes_of e.key) + 0 + length (bytes_of e.separator) + 0 + length (bytes_of e.value) + 0 ≡ at + z.blanks + z.key + z.separator + z.value = omega arith in
+    let t : from + length e.prefix + length (bytes_of e.key) + 0 + length (bytes_of e.separator) + 0 + length (bytes_of e.value) + 0 + length e.ending ≡ at + z.blanks + z.key + z.separator + z.value + z.ending = omega arith in
     cc
 
 module _ (bytes : List ℕ) (leaves : List Leaf) (nodes : List NodeRow) (from at : ℕ) where
@@ -146,7 +146,7 @@ none_read bytes leaves nodes no_leaf no_node =
     subst (λ (ns : List NodeRow). IsRead bytes leaves ns 0 0) (sym no_node) (subst (λ (ls : List Leaf). IsRead bytes ls [] 0 0) (sym no_leaf) (first_read bytes))
 
 pub entries-none : (before : List ℕ) → entries_from before [] ≡ record { entries = []; rest = before }
-unfolding entries_from entries_of grouped lines_of
+unfolding entries_from entries_of group_lines lines_of
 entries-none before = ap (λ (r : List ℕ). record { entries = []; rest = r }) (append-nil before)
 
 -- the leaf of the end, and the node of a file

@@ -1,7 +1,7 @@
 -- What a file's tree has of its entries.
 use Rattle.std.proofs.Common.{◌≡◌, ℕ, ◌+◌, ◌*◌, ◌<◌, List, length, sym, ◌∙◌, ap}
 use Rattle.rw_base.specs.Arena.{Arena, first_of, past_of, end_of, leaf_at, text_of}
-use Rattle.properties_tree.specs.Entries.{properties_of, raw}
+use Rattle.properties_tree.specs.Entries.{properties_of, bytes_of}
 use Rattle.properties_tree.specs.Decoding.{entry_at}
 use Rattle.properties_tree.specs.Layout.{tree_of}
 use Rattle.rw_base.specs.declared.tree.NodeRow.{NodeRow}
@@ -32,10 +32,10 @@ module _ (t : Arena) (bytes : List ℕ) (same : t ≡ tree_of bytes) where
   pub bytes_are : length bytes ≡ end_of t
   bytes_are = sym (ap end_of same ∙ end_of-tree_of bytes)
 
-  pub key_is : (n : ℕ) → n < length (properties_of bytes).entries → text_of bytes (leaf_at t.leaves (4 * n)) ≡ raw (entry_at bytes n).key
+  pub key_is : (n : ℕ) → n < length (properties_of bytes).entries → text_of bytes (leaf_at t.leaves (4 * n)) ≡ bytes_of (entry_at bytes n).key
   key_is n there = ap (λ (a : Arena). text_of bytes (leaf_at a.leaves (4 * n))) same ∙ key_leaf_text bytes n there
 
-  pub value_is : (n : ℕ) → n < length (properties_of bytes).entries → text_of bytes (leaf_at t.leaves (4 * n + 2)) ≡ raw (entry_at bytes n).value
+  pub value_is : (n : ℕ) → n < length (properties_of bytes).entries → text_of bytes (leaf_at t.leaves (4 * n + 2)) ≡ bytes_of (entry_at bytes n).value
   value_is n there = ap (λ (a : Arena). text_of bytes (leaf_at a.leaves (4 * n + 2))) same ∙ value_leaf_text bytes n there
 
 pub ruleset in_tree = (leaves_are, nodes_are, root_is, first_is, past_is, bytes_are, key_is, value_is)

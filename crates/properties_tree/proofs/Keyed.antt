@@ -8,8 +8,8 @@ use Rattle.std.proofs.lemmas.List.{drop-drop, drop_all, length-take-le, take_at,
 use Rattle.rw_base.specs.Joins.{joined_slices}
 use Rattle.properties_tree.specs.Characters.{has_backslash}
 use Rattle.rw_base.specs.NaturalLines.{whole_line}
-use Rattle.properties_tree.specs.Lines.{leading_blanks, unblanked}
-use Rattle.properties_tree.specs.Entries.{Logical, passed, entry, raw, joined, Entry, entry_of, Properties, entries_of, properties_of, no_entry}
+use Rattle.properties_tree.specs.Lines.{leading_blanks, behind_blanks}
+use Rattle.properties_tree.specs.Entries.{LogicalLine, passed, entry, bytes_of, join_lines, Entry, entry_of, Properties, entries_of, properties_of, no_entry}
 use Rattle.properties_tree.specs.Decoding.{key_text, entry_at}
 use Rattle.properties_tree.specs.Sizes.{begins_no_entry, ending_length, entries_from, whole_size, BeginsPassed, BeginsEntry}
 use Rattle.properties_tree.specs.Laws.{whole_entry, whole_of}
@@ -27,7 +27,7 @@ told_by true a b told = (bytes_eq-Decides a b).1 (told.0 refl)
 told_by false a b told = elim (cases_Bool (bytes_eq a b)) [ inl e ↦ absurd (false≢true (told.1 ((bytes_eq-Decides a b).0 e))) | inr e ↦ e ]
 
 -- what stands before the entries stands before all
-prefix_first : (key w before : List ℕ) (lines : List Logical) → all_with key w (entries_of before lines) ≡ before ++ all_with key w (entries_of [] lines)
+prefix_first : (key w before : List ℕ) (lines : List LogicalLine) → all_with key w (entries_of before lines) ≡ before ++ all_with key w (entries_of [] lines)
 unfolding entries_of entry_of
 prefix_first key w before [] = sym (append-nil before)
 prefix_first key w before (passed line ∷ lines) =
@@ -35,8 +35,8 @@ prefix_first key w before (passed line ∷ lines) =
     ∙ (append_assoc before (whole_line line) (all_with key w (entries_of [] lines))
     ∙ ap (λ t. before ++ t) (sym (prefix_first key w (whole_line line) lines)))
 prefix_first key w before (entry line more ∷ lines) =
-    let e = entry_of (leading_blanks line.text) (joined (unblanked line.text) line.ending more) in
-    regrouped before e.prefix (key_or key w e ++ (raw e.separator ++ (raw e.value ++ e.ending))) (all_with key w (entries_of [] lines))
+    let e = entry_of (leading_blanks line.text) (join_lines (behind_blanks line.text) line.ending more) in
+    regrouped before e.prefix (key_or key w e ++ (bytes_of e.separator ++ (bytes_of e.value ++ e.ending))) (all_with key w (entries_of [] lines))
   where
     regrouped : (a b c d : List ℕ) → ((a ++ b) ++ c) ++ d ≡ a ++ ((b ++ c) ++ d)
     regrouped a b c d = simp append_assoc
@@ -73,7 +73,7 @@ module _ (text : List ℕ) (p : KeyPlace) (line : BeginsKey text p) where
   rest = drop (whole_size line.sizes) text
 
   abbrev behind : List ℕ
-  behind = raw e.separator ++ (raw e.value ++ e.ending)
+  behind = bytes_of e.separator ++ (bytes_of e.value ++ e.ending)
 
   whole : text ≡ whole_entry e ++ rest
   whole =
@@ -84,30 +84,30 @@ module _ (text : List ℕ) (p : KeyPlace) (line : BeginsKey text p) where
   blanks_long = length-take-le line.sizes.blanks text (omega (arith, b.inside))
 
   behind_long : length behind ≡ line.sizes.separator + line.sizes.value + line.sizes.ending
-  behind_long = length-append (raw e.separator) (raw e.value ++ e.ending) ∙ omega (arith, length-append (raw e.value) e.ending, b.separator_size, b.value_size, b.ending_size)
+  behind_long = length-append (bytes_of e.separator) (bytes_of e.value ++ e.ending) ∙ omega (arith, length-append (bytes_of e.value) e.ending, b.separator_size, b.value_size, b.ending_size)
 
   entry_long : length (whole_entry e) ≡ whole_size line.sizes
   entry_long =
-      length-append (take line.sizes.blanks text) (raw e.key ++ behind)
-      ∙ omega (arith, blanks_long, length-append (raw e.key) behind, behind_long, b.key_size)
+      length-append (take line.sizes.blanks text) (bytes_of e.key ++ behind)
+      ∙ omega (arith, blanks_long, length-append (bytes_of e.key) behind, behind_long, b.key_size)
 
   pub first_entry : entry_at text 0 ≡ e
   unfolding properties_of entries_from
   first_entry = ap (λ (p : Properties). get_or p.entries 0 no_entry) (b.entries [])
 
   -- its key's bytes
-  pub key_bytes : slice_range text p.from p.to ≡ raw (entry_at text 0).key
+  pub key_bytes : slice_range text p.from p.to ≡ bytes_of (entry_at text 0).key
   key_bytes =
-      part_at text (take line.sizes.blanks text) (raw e.key) (behind ++ rest) p.from p.to
-      (whole ∙ (append_assoc (take line.sizes.blanks text) (raw e.key ++ behind) rest ∙ ap (λ t. take line.sizes.blanks text ++ t) (append_assoc (raw e.key) behind rest)))
+      part_at text (take line.sizes.blanks text) (bytes_of e.key) (behind ++ rest) p.from p.to
+      (whole ∙ (append_assoc (take line.sizes.blanks text) (bytes_of e.key ++ behind) rest ∙ ap (λ t. take line.sizes.blanks text ++ t) (append_assoc (bytes_of e.key) behind rest)))
       (blanks_long ∙ sym line.from_is) (omega (arith, line.from_is, line.to_is, b.key_size))
-      ∙ ap (λ (x : Entry). raw x.key) (sym first_entry)
+      ∙ ap (λ (x : Entry). bytes_of x.key) (sym first_entry)
 
   behind_is : slice_range text p.to p.next ≡ behind
   behind_is =
-      part_at text (take line.sizes.blanks text ++ raw e.key) behind rest p.to p.next
-      (whole ∙ regrouped (take line.sizes.blanks text) (raw e.key) behind rest)
-      (length-append (take line.sizes.blanks text) (raw e.key) ∙ omega (arith, blanks_long, b.key_size, line.to_is))
+      part_at text (take line.sizes.blanks text ++ bytes_of e.key) behind rest p.to p.next
+      (whole ∙ regrouped (take line.sizes.blanks text) (bytes_of e.key) behind rest)
+      (length-append (take line.sizes.blanks text) (bytes_of e.key) ∙ omega (arith, blanks_long, b.key_size, line.to_is))
       (omega (arith, behind_long, line.to_is, line.next_is))
     where
       regrouped : (w x y z : List ℕ) → (w ++ (x ++ y)) ++ z ≡ (w ++ x) ++ (y ++ z)
@@ -128,7 +128,7 @@ module _ (text : List ℕ) (p : KeyPlace) (line : BeginsKey text p) where
       some = omega (arith, b.some, line.next_is);
       inside = omega (arith, b.inside, line.next_is);
       new = λ w.
-          let own : key_or key w e ≡ raw e.key = rw (sym (ap (λ (x : Entry). bytes_eq (key_text x) key) first_entry) ∙ other) refl in
+          let own : key_or key w e ≡ bytes_of e.key = rw (sym (ap (λ (x : Entry). bytes_eq (key_text x) key) first_entry) ∙ other) refl in
           let front : whole_entry e ≡ take p.next text = sym (ap (take p.next) whole ∙ take_at (whole_entry e) rest p.next (entry_long ∙ sym line.next_is)) in
           step w ∙ ap (λ t. t ++ with_key key w (drop p.next text)) (ap (λ k. e.prefix ++ (k ++ behind)) own ∙ front);
     }

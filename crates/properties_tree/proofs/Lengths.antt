@@ -4,7 +4,7 @@ use Rattle.std.specs.Prelude.{◌==◌}
 use Rattle.std.proofs.lemmas.List.{at_drop_more, at_drop_all}
 use Rattle.std.proofs.lemmas.Bool.{or_parts, or_from, cases_Bool}
 use Rattle.properties_tree.specs.Characters.{is_line_end, is_blank, has_backslash}
-use Rattle.properties_tree.specs.Lines.{leading_blanks, unblanked}
+use Rattle.properties_tree.specs.Lines.{leading_blanks, behind_blanks}
 use Rattle.properties_tree.specs.Sizes.{text_length}
 
 module _ (s : List ℕ) (i : ℕ) (inside : i < length s) where
@@ -45,9 +45,9 @@ plain_more (suc i) (b ∷ rest) h none other =
     let parts = or_parts (b == 92) (has_backslash (take i rest)) none in
     or_from (b == 92) (has_backslash (take (suc i) rest)) parts.0 (plain_more i rest (omega arith) parts.1 other)
 
-pub unblanked_is : (s : List ℕ) → unblanked s ≡ drop (length (leading_blanks s)) s
-unblanked_is [] = refl
-unblanked_is (b ∷ rest) = elim (cases_Bool (is_blank b)) [ inl e ↦ rw e (unblanked_is rest) | inr e ↦ rw e refl ]
+pub behind_blanks_is : (s : List ℕ) → behind_blanks s ≡ drop (length (leading_blanks s)) s
+behind_blanks_is [] = refl
+behind_blanks_is (b ∷ rest) = elim (cases_Bool (is_blank b)) [ inl e ↦ rw e (behind_blanks_is rest) | inr e ↦ rw e refl ]
 
 pub blanks-le : (s : List ℕ) → length (leading_blanks s) ≤ length s
 blanks-le [] = omega arith

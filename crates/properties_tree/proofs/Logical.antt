@@ -6,14 +6,14 @@ use Rattle.std.proofs.lemmas.Bool.{cases_Bool, eqb-true, eqb-false, eq-eqb, ne_e
 use Rattle.std.proofs.lemmas.List.{take-append-drop, drop-drop, length-take-le}
 use Rattle.properties_tree.specs.Characters.{is_line_end, is_blank, backslash}
 use Rattle.rw_base.specs.NaturalLines.{Line}
-use Rattle.properties_tree.specs.Lines.{leading_blanks, unblanked, goes_on, is_odd, backslashes_behind}
-use Rattle.properties_tree.specs.Entries.{Logical, Piece, char, joint, raw, chars, without_last, Joined, joined, grouped, logical_lines}
+use Rattle.properties_tree.specs.Lines.{leading_blanks, behind_blanks, is_continued, is_odd, backslashes_behind}
+use Rattle.properties_tree.specs.Entries.{LogicalLine, Piece, char, joint, bytes_of, chars, without_last, JoinedLine, join_lines, group_lines, logical_lines}
 use Rattle.properties_tree.specs.Sizes.{text_length, ending_length}
 use Rattle.properties_tree.specs.Cutting.{joins, joint_size, pieces_in, line_size}
-use Rattle.properties_tree.proofs.Lengths.{unblanked_is, leading_is}
+use Rattle.properties_tree.proofs.Lengths.{behind_blanks_is, leading_is}
 use Rattle.properties_tree.proofs.FirstLine.{line_text, behind_text, ending_text, lines_behind, line_of, first_line, at_end as nothing_behind}
-use Rattle.properties_tree.proofs.Plain.{raw-chars, grouped-none, joined-plain}
-use Rattle.properties_tree.proofs.Whole.{raw-append, ends_in_backslash, goes_on-unblanked, one_less, blanks_first}
+use Rattle.properties_tree.proofs.Plain.{bytes_of-chars, grouped-none, joined-plain}
+use Rattle.properties_tree.proofs.Whole.{bytes_of-append, ends_in_backslash, is_continued-behind_blanks, one_less, blanks_first}
 use Rattle.properties_tree.proofs.Cut.{at_none, at_end, at_char, at_pair, at_joint}
 
 -- ---- one natural line
@@ -71,7 +71,7 @@ is_said (b ∷ rest) count =
       | inr e ↦ more_said b rest count e (is_said rest)
     ]
 
-pub line_said : (s : List ℕ) → pieces_in s ≡ said (goes_on (line_text s)) (line_text s) (behind_text s)
+pub line_said : (s : List ℕ) → pieces_in s ≡ said (is_continued (line_text s)) (line_text s) (behind_text s)
 line_said s = (is_said s 0).plain refl
 
 -- ---- blanks before a line
@@ -85,8 +85,8 @@ blank_inside b e =
 
 -- a line behind its blanks
 pub record IsBlanked (s : List ℕ) : Type 0 where
-  pub text : unblanked (line_text s) ≡ line_text (unblanked s)
-  pub rest : behind_text (unblanked s) ≡ behind_text s
+  pub text : behind_blanks (line_text s) ≡ line_text (behind_blanks s)
+  pub rest : behind_text (behind_blanks s) ≡ behind_text s
   pub blanks : leading_blanks (line_text s) ≡ leading_blanks s
 
 pub blanked : (s : List ℕ) → IsBlanked s
@@ -114,8 +114,8 @@ joins_behind (b ∷ rest) = elim (cases_Bool (is_line_end b)) [ inl e ↦ rw e (
 
 -- The first line of a text and those in which it goes on are the text's pieces, and what stands behind them.
 pub record IsLogical (s : List ℕ) : Type 0 where
-  pub line : joined (line_text s) (ending_text (behind_text s)) (grouped (goes_on (line_text s)) (lines_behind (behind_text s))).0 ≡ record { pieces = pieces_in s; ending = ending_text (drop (line_size s) s) }
-  pub more : (grouped (goes_on (line_text s)) (lines_behind (behind_text s))).1 ≡ logical_lines (lines_behind (drop (line_size s) s))
+  pub line : join_lines (line_text s) (ending_text (behind_text s)) (group_lines (is_continued (line_text s)) (lines_behind (behind_text s))).0 ≡ record { pieces = pieces_in s; ending = ending_text (drop (line_size s) s) }
+  pub more : (group_lines (is_continued (line_text s)) (lines_behind (behind_text s))).1 ≡ logical_lines (lines_behind (drop (line_size s) s))
   pub end : joins (drop (line_size s) s) ≡ true
 
 text_length-le : (s : List ℕ) → text_length s ≤ length s
@@ -123,10 +123,10 @@ text_length-le [] = omega arith
 text_length-le (b ∷ rest) = elim (cases_Bool (is_line_end b)) [ inl e ↦ rw e (omega arith) | inr e ↦ rw e (let more = text_length-le rest in omega arith) ]
 
 -- a line that ends
-ends_alone : (s : List ℕ) → goes_on (line_text s) ≡ false → IsLogical s
+ends_alone : (s : List ℕ) → is_continued (line_text s) ≡ false → IsLogical s
 ends_alone s ends =
     let pieces : pieces_in s ≡ chars (line_text s) = line_said s ∙ rw ends refl in
-    let size : line_size s ≡ text_length s = ap (λ ps. length (raw ps)) pieces ∙ (ap length (raw-chars (line_text s)) ∙ length-take-le (text_length s) s (text_length-le s)) in
+    let size : line_size s ≡ text_length s = ap (λ ps. length (bytes_of ps)) pieces ∙ (ap length (bytes_of-chars (line_text s)) ∙ length-take-le (text_length s) s (text_length-le s)) in
     record {
       line = rw (ends, grouped-none (lines_behind (behind_text s)), size, pieces) (joined-plain (line_text s) (ending_text (behind_text s)) ends);
       more = rw (ends, size) refl;
@@ -135,27 +135,27 @@ ends_alone s ends =
 
 -- the text behind a line and the blanks of the next one
 abbrev next_text : List ℕ → List ℕ
-next_text s = unblanked (drop (ending_length (behind_text s)) (behind_text s))
+next_text s = behind_blanks (drop (ending_length (behind_text s)) (behind_text s))
 
-joined-next : (text ending : List ℕ) (next : Line) (more : List Line) → joined text ending (next ∷ more)
-    ≡ record { pieces = chars (without_last text) ++ joint ((backslash ∷ ending) ++ leading_blanks next.text) ∷ (joined (unblanked next.text) next.ending more).pieces; ending = (joined (unblanked next.text) next.ending more).ending }
-unfolding joined
+joined-next : (text ending : List ℕ) (next : Line) (more : List Line) → join_lines text ending (next ∷ more)
+    ≡ record { pieces = chars (without_last text) ++ joint ((backslash ∷ ending) ++ leading_blanks next.text) ∷ (join_lines (behind_blanks next.text) next.ending more).pieces; ending = (join_lines (behind_blanks next.text) next.ending more).ending }
+unfolding join_lines
 joined-next text ending next more = refl
 
-joined-last : (text ending : List ℕ) → goes_on text ≡ true → joined text ending [] ≡ record { pieces = chars (without_last text) ++ joint (backslash ∷ ending) ∷ []; ending = [] }
-unfolding joined
+joined-last : (text ending : List ℕ) → is_continued text ≡ true → join_lines text ending [] ≡ record { pieces = chars (without_last text) ++ joint (backslash ∷ ending) ∷ []; ending = [] }
+unfolding join_lines
 joined-last text ending on = rw on refl
 
-grouped-next : (next : Line) (lines : List Line) → grouped true (next ∷ lines) ≡ (next ∷ (grouped (goes_on next.text) lines).0, (grouped (goes_on next.text) lines).1)
-unfolding grouped
+grouped-next : (next : Line) (lines : List Line) → group_lines true (next ∷ lines) ≡ (next ∷ (group_lines (is_continued next.text) lines).0, (group_lines (is_continued next.text) lines).1)
+unfolding group_lines
 grouped-next next lines = refl
 
-grouped-nil : (going : Bool) → grouped going [] ≡ ([], [])
-unfolding grouped
+grouped-nil : (going : Bool) → group_lines going [] ≡ ([], [])
+unfolding group_lines
 grouped-nil true = refl
 grouped-nil false = refl
 
-module _ (s : List ℕ) (on : goes_on (line_text s) ≡ true) where
+module _ (s : List ℕ) (on : is_continued (line_text s) ≡ true) where
   abbrev t : List ℕ
   t = behind_text s
 
@@ -163,7 +163,7 @@ module _ (s : List ℕ) (on : goes_on (line_text s) ≡ true) where
   after = drop (ending_length t) t
 
   abbrev u : List ℕ
-  u = unblanked after
+  u = behind_blanks after
 
   abbrev w : List ℕ
   w = without_last (line_text s)
@@ -175,7 +175,7 @@ module _ (s : List ℕ) (on : goes_on (line_text s) ≡ true) where
   link_is =
       let size = length (leading_blanks after) in
       let text : take (joint_size t) t ≡ ending_text t ++ leading_blanks after = take-add (ending_length t) size t ∙ ap (λ x. ending_text t ++ x) (sym (leading_is after)) in
-      let rest : drop (joint_size t) t ≡ u = sym (drop-drop size (ending_length t) t) ∙ sym (unblanked_is after) in
+      let rest : drop (joint_size t) t ≡ u = sym (drop-drop size (ending_length t) t) ∙ sym (behind_blanks_is after) in
       at_joint 92 t refl (joins_behind s) ∙ (ap (λ x. joint (backslash ∷ x) ∷ pieces_in (drop (joint_size t) t)) text ∙ ap (λ x. joint link ∷ pieces_in x) rest)
 
   pieces_are : pieces_in s ≡ chars w ++ joint link ∷ pieces_in u
@@ -193,9 +193,9 @@ module _ (s : List ℕ) (on : goes_on (line_text s) ≡ true) where
 
   behind_is : drop (line_size s) s ≡ drop (line_size u) u
   behind_is =
-      let raw_is : raw (pieces_in s) ≡ (w ++ link) ++ raw (pieces_in u) =
-      ap raw pieces_are ∙ (raw-append (chars w) (joint link ∷ pieces_in u) ∙ (ap (λ x. x ++ (link ++ raw (pieces_in u))) (raw-chars w) ∙ sym (append_assoc w link (raw (pieces_in u))))) in
-      let size : line_size s ≡ length (w ++ link) + line_size u = ap length raw_is ∙ length-append (w ++ link) (raw (pieces_in u)) in
+      let raw_is : bytes_of (pieces_in s) ≡ (w ++ link) ++ bytes_of (pieces_in u) =
+      ap bytes_of pieces_are ∙ (bytes_of-append (chars w) (joint link ∷ pieces_in u) ∙ (ap (λ x. x ++ (link ++ bytes_of (pieces_in u))) (bytes_of-chars w) ∙ sym (append_assoc w link (bytes_of (pieces_in u))))) in
+      let size : line_size s ≡ length (w ++ link) + line_size u = ap length raw_is ∙ length-append (w ++ link) (bytes_of (pieces_in u)) in
       ap (λ n. drop n s) size ∙ (ap (drop (length (w ++ link) + line_size u)) text_is ∙ drop-append-add (w ++ link) u (line_size u))
 
   shorter : length u + 1 ≤ length s
@@ -209,45 +209,45 @@ module _ (s : List ℕ) (on : goes_on (line_text s) ≡ true) where
   goes_nowhere : IsLogical u → (ending_length t == 0) ≡ true → IsLogical s
   goes_nowhere next e =
       let none : t ≡ [] = nothing_behind s (eqb-true (ending_length t) 0 e) in
-      let u_none : u ≡ [] = ap (λ x. unblanked (drop (ending_length x) x)) none in
-      let rest_none : drop (line_size s) s ≡ [] = behind_is ∙ (ap (λ x. drop (line_size x) x) u_none ∙ ap (λ ps. drop (length (raw ps)) []) at_none) in
+      let u_none : u ≡ [] = ap (λ x. behind_blanks (drop (ending_length x) x)) none in
+      let rest_none : drop (line_size s) s ≡ [] = behind_is ∙ (ap (λ x. drop (line_size x) x) u_none ∙ ap (λ ps. drop (length (bytes_of ps)) []) at_none) in
       let pieces : pieces_in s ≡ chars w ++ joint (backslash ∷ []) ∷ [] =
-      pieces_are ∙ (ap (λ x. chars w ++ joint ((backslash ∷ ending_text x) ++ leading_blanks (drop (ending_length x) x)) ∷ pieces_in (unblanked (drop (ending_length x) x))) none ∙ ap (λ ps. chars w ++ joint (backslash ∷ []) ∷ ps) at_none) in
+      pieces_are ∙ (ap (λ x. chars w ++ joint ((backslash ∷ ending_text x) ++ leading_blanks (drop (ending_length x) x)) ∷ pieces_in (behind_blanks (drop (ending_length x) x))) none ∙ ap (λ ps. chars w ++ joint (backslash ∷ []) ∷ ps) at_none) in
       record {
         line =
-            rw (on, e) (ap (λ (g : List Line × List Logical). joined (line_text s) (ending_text t) g.0) (grouped-nil true)
+            rw (on, e) (ap (λ (g : List Line × List LogicalLine). join_lines (line_text s) (ending_text t) g.0) (grouped-nil true)
             ∙ (joined-last (line_text s) (ending_text t) on
             ∙ (ap (λ x. record { pieces = chars w ++ joint (backslash ∷ ending_text x) ∷ []; ending = [] }) none
             ∙ (ap (λ (ps : List Piece). record { pieces = ps; ending = [] }) (sym pieces) ∙ ap (λ x. record { pieces = pieces_in s; ending = ending_text x }) (sym rest_none)))));
-        more = rw (on, e) (ap (λ (g : List Line × List Logical). g.1) (grouped-nil true) ∙ (sym (ap (λ (g : List Line × List Logical). g.1) (grouped-nil false)) ∙ ap (λ x. logical_lines (lines_behind x)) (sym rest_none)));
+        more = rw (on, e) (ap (λ (g : List Line × List LogicalLine). g.1) (grouped-nil true) ∙ (sym (ap (λ (g : List Line × List LogicalLine). g.1) (grouped-nil false)) ∙ ap (λ x. logical_lines (lines_behind x)) (sym rest_none)));
         end = ap joins behind_is ∙ next.end;
       }
 
   goes_further : IsLogical u → (ending_length t == 0) ≡ false → IsLogical s
   goes_further next e =
       let L = lines_behind (behind_text after) in
-      let g = goes_on (line_text after) in
+      let g = is_continued (line_text after) in
       let B = blanked after in
       let behind : lines_behind t ≡ line_of after ∷ L = rw e (first_line after) in
-      let goes : g ≡ goes_on (line_text u) = sym (goes_on-unblanked (line_text after)) ∙ ap goes_on B.text in
-      let group : grouped (goes_on (line_text s)) (lines_behind t) ≡ (line_of after ∷ (grouped g L).0, (grouped g L).1) =
-      ap (λ x. grouped x (lines_behind t)) on ∙ (ap (grouped true) behind ∙ grouped-next (line_of after) L) in
-      let J : joined (unblanked (line_text after)) (ending_text (behind_text after)) (grouped g L).0 ≡ record { pieces = pieces_in u; ending = ending_text (drop (line_size u) u) } =
-      ap (λ x. joined x (ending_text (behind_text after)) (grouped g L).0) B.text
-      ∙ (ap (λ x. joined (line_text u) (ending_text (behind_text after)) (grouped x L).0) goes
-      ∙ (ap (λ r. joined (line_text u) (ending_text r) (grouped (goes_on (line_text u)) (lines_behind r)).0) (sym B.rest) ∙ next.line)) in
+      let goes : g ≡ is_continued (line_text u) = sym (is_continued-behind_blanks (line_text after)) ∙ ap is_continued B.text in
+      let group : group_lines (is_continued (line_text s)) (lines_behind t) ≡ (line_of after ∷ (group_lines g L).0, (group_lines g L).1) =
+      ap (λ x. group_lines x (lines_behind t)) on ∙ (ap (group_lines true) behind ∙ grouped-next (line_of after) L) in
+      let J : join_lines (behind_blanks (line_text after)) (ending_text (behind_text after)) (group_lines g L).0 ≡ record { pieces = pieces_in u; ending = ending_text (drop (line_size u) u) } =
+      ap (λ x. join_lines x (ending_text (behind_text after)) (group_lines g L).0) B.text
+      ∙ (ap (λ x. join_lines (line_text u) (ending_text (behind_text after)) (group_lines x L).0) goes
+      ∙ (ap (λ r. join_lines (line_text u) (ending_text r) (group_lines (is_continued (line_text u)) (lines_behind r)).0) (sym B.rest) ∙ next.line)) in
       record {
         line =
-            ap (λ (x : List Line × List Logical). joined (line_text s) (ending_text t) x.0) group
-            ∙ (joined-next (line_text s) (ending_text t) (line_of after) (grouped g L).0
-            ∙ (ap (λ (j : Joined). record { pieces = chars w ++ joint ((backslash ∷ ending_text t) ++ leading_blanks (line_text after)) ∷ j.pieces; ending = j.ending }) J
+            ap (λ (x : List Line × List LogicalLine). join_lines (line_text s) (ending_text t) x.0) group
+            ∙ (joined-next (line_text s) (ending_text t) (line_of after) (group_lines g L).0
+            ∙ (ap (λ (j : JoinedLine). record { pieces = chars w ++ joint ((backslash ∷ ending_text t) ++ leading_blanks (line_text after)) ∷ j.pieces; ending = j.ending }) J
             ∙ (ap (λ (b : List ℕ). record { pieces = chars w ++ joint ((backslash ∷ ending_text t) ++ b) ∷ pieces_in u; ending = ending_text (drop (line_size u) u) }) B.blanks
             ∙ (ap (λ (ps : List Piece). record { pieces = ps; ending = ending_text (drop (line_size u) u) }) (sym pieces_are)
             ∙ ap (λ (r : List ℕ). record { pieces = pieces_in s; ending = ending_text r }) (sym behind_is)))));
         more =
-            ap (λ (x : List Line × List Logical). x.1) group
-            ∙ (ap (λ x. (grouped x L).1) goes
-            ∙ (ap (λ r. (grouped (goes_on (line_text u)) (lines_behind r)).1) (sym B.rest)
+            ap (λ (x : List Line × List LogicalLine). x.1) group
+            ∙ (ap (λ x. (group_lines x L).1) goes
+            ∙ (ap (λ r. (group_lines (is_continued (line_text u)) (lines_behind r)).1) (sym B.rest)
             ∙ (next.more ∙ ap (λ x. logical_lines (lines_behind x)) (sym behind_is))));
         end = ap joins behind_is ∙ next.end;
       }
@@ -259,7 +259,7 @@ logical_within : (n : ℕ) (s : List ℕ) → length s ≤ n → IsLogical s
 logical_within zero [] h = ends_alone [] refl
 logical_within zero (b ∷ rest) h = absurd (omega arith)
 logical_within (suc n) s h =
-    elim (cases_Bool (goes_on (line_text s))) [
+    elim (cases_Bool (is_continued (line_text s))) [
       | inl on ↦ let less = shorter s on in goes_on_in s on (logical_within n (next_text s) (omega arith))
       | inr ends ↦ ends_alone s ends
     ]

@@ -4,7 +4,7 @@ use Rattle.std.specs.Prelude.{◌==◌, ◌||◌}
 use Rattle.std.proofs.lemmas.Bool.{false≢true, eqb-true, or_parts, not-true}
 use Rattle.std.proofs.lemmas.List.{drop_more, drop_all, drop-drop, length-take-le}
 use Rattle.properties_tree.specs.Characters.{is_line_end, is_blank, is_separator, ends_key, backslash, has_backslash, is_plain, is_plain_in_key}
-use Rattle.properties_tree.specs.Entries.{Piece, char, joint, raw, meant, through, key_length}
+use Rattle.properties_tree.specs.Entries.{Piece, char, joint, bytes_of, characters_of, take_characters, key_length}
 use Rattle.properties_tree.specs.Cutting.{joins, joint_size, pieces_in, key_front, separator_front, separator_from, key_size, separator_size, line_size, ends_at, key_end, IsChar, IsPair, IsJoint}
 use Rattle.properties_tree.proofs.Lengths.{plain_more}
 use Rattle.properties_tree.proofs.Cut.{at_none, at_end, at_char, at_pair, at_joint, joint_size-le}
@@ -60,19 +60,19 @@ module _ (s : List ℕ) (at : ℕ) (inside : at < length s) where
 
 -- ---- the end of a key
 
-one_more : (n e a b : ℕ) (ps : List Piece) → ends_at (suc n) e (a + length (raw (through (suc n) (char b ∷ ps)))) ≡ ends_at n (a + 1) (a + 1 + length (raw (through n ps)))
+one_more : (n e a b : ℕ) (ps : List Piece) → ends_at (suc n) e (a + length (bytes_of (take_characters (suc n) (char b ∷ ps)))) ≡ ends_at n (a + 1) (a + 1 + length (bytes_of (take_characters n ps)))
 one_more zero e a b ps = omega arith
 one_more (suc n) e a b ps = omega arith
 
-two_more : (n e a b c : ℕ) (ps : List Piece) → ends_at (suc (suc n)) e (a + length (raw (through (suc (suc n)) (char b ∷ char c ∷ ps)))) ≡ ends_at n (a + 2) (a + 2 + length (raw (through n ps)))
+two_more : (n e a b c : ℕ) (ps : List Piece) → ends_at (suc (suc n)) e (a + length (bytes_of (take_characters (suc (suc n)) (char b ∷ char c ∷ ps)))) ≡ ends_at n (a + 2) (a + 2 + length (bytes_of (take_characters n ps)))
 two_more zero e a b c ps = omega arith
 two_more (suc n) e a b c ps = omega arith
 
-past_joint : (n e a : ℕ) (t : List ℕ) (ps : List Piece) → ends_at n e (a + length (raw (through n (joint t ∷ ps)))) ≡ ends_at n e (a + length t + length (raw (through n ps)))
+past_joint : (n e a : ℕ) (t : List ℕ) (ps : List Piece) → ends_at n e (a + length (bytes_of (take_characters n (joint t ∷ ps)))) ≡ ends_at n e (a + length t + length (bytes_of (take_characters n ps)))
 past_joint zero e a t ps = refl
-past_joint (suc n) e a t ps = omega (arith, length-append t (raw (through (suc n) ps)))
+past_joint (suc n) e a t ps = omega (arith, length-append t (bytes_of (take_characters (suc n) ps)))
 
-at_start : (n : ℕ) (ps : List Piece) → length (raw (through n ps)) ≡ ends_at n 0 (0 + length (raw (through n ps)))
+at_start : (n : ℕ) (ps : List Piece) → length (bytes_of (take_characters n ps)) ≡ ends_at n 0 (0 + length (bytes_of (take_characters n ps)))
 at_start zero ps = refl
 at_start (suc n) ps = omega arith
 
@@ -81,7 +81,7 @@ module _ (s : List ℕ) (e a : ℕ) where
   key_char b next inside =
       let ps = pieces_in (drop (a + 1) s) in
       let plain = next.plain in
-      ap (key_end e a) next.pieces ∙ rw (plain, inside) (one_more (key_length (meant ps)) e a b ps)
+      ap (key_end e a) next.pieces ∙ rw (plain, inside) (one_more (key_length (characters_of ps)) e a b ps)
 
   pub key_stop : (b : ℕ) → IsChar s a b → ends_key b ≡ true → key_end e a (pieces_in (drop a s)) ≡ e
   key_stop b next stops = let plain = next.plain in ap (key_end e a) next.pieces ∙ rw (plain, stops) refl
@@ -89,25 +89,25 @@ module _ (s : List ℕ) (e a : ℕ) where
   pub key_pair : (c : ℕ) → IsPair s a c → key_end e a (pieces_in (drop a s)) ≡ key_end (a + 2) (a + 2) (pieces_in (drop (a + 2) s))
   key_pair c next =
       let ps = pieces_in (drop (a + 2) s) in
-      ap (key_end e a) next.pieces ∙ two_more (key_length (meant ps)) e a backslash c ps
+      ap (key_end e a) next.pieces ∙ two_more (key_length (characters_of ps)) e a backslash c ps
 
   pub key_joint : (n : ℕ) → IsJoint s a n → key_end e a (pieces_in (drop a s)) ≡ key_end e (a + n) (pieces_in (drop (a + n) s))
   key_joint n next =
       let ps = pieces_in (drop (a + n) s) in
-      ap (key_end e a) next.pieces ∙ (past_joint (key_length (meant ps)) e a next.bytes ps ∙ ap (λ k. ends_at (key_length (meant ps)) e (a + k + length (raw (key_front ps)))) next.length_is)
+      ap (key_end e a) next.pieces ∙ (past_joint (key_length (characters_of ps)) e a next.bytes ps ∙ ap (λ k. ends_at (key_length (characters_of ps)) e (a + k + length (bytes_of (key_front ps)))) next.length_is)
 
   pub key_over : pieces_in (drop a s) ≡ [] → key_end e a (pieces_in (drop a s)) ≡ e
   key_over none = ap (key_end e a) none
 
 pub key_from_start : (s : List ℕ) → key_size s ≡ key_end 0 0 (pieces_in (drop 0 s))
-key_from_start s = at_start (key_length (meant (pieces_in s))) (pieces_in s)
+key_from_start s = at_start (key_length (characters_of (pieces_in s))) (pieces_in s)
 
 pub ruleset over_key = (key_char, key_stop, key_pair, key_joint, key_over, key_from_start, next_none)
 
 -- ---- the end of a separator
 
 abbrev pub separator_end : Bool → ℕ → ℕ → List Piece → ℕ
-separator_end m e a ps = ends_at (separator_from m (meant ps)) e (a + length (raw (separator_front m ps)))
+separator_end m e a ps = ends_at (separator_from m (characters_of ps)) e (a + length (bytes_of (separator_front m ps)))
 
 -- a character that is no blank and no mark
 other_ends : (m : Bool) (e a b : ℕ) (ps : List Piece) → is_blank b ≡ false → is_separator b ≡ false → separator_end m e a (char b ∷ ps) ≡ e
@@ -118,13 +118,13 @@ module _ (s : List ℕ) (m : Bool) (e a : ℕ) where
   pub separator_blank : (b : ℕ) → IsChar s a b → is_blank b ≡ true → separator_end m e a (pieces_in (drop a s)) ≡ separator_end m (a + 1) (a + 1) (pieces_in (drop (a + 1) s))
   separator_blank b next blank =
       let ps = pieces_in (drop (a + 1) s) in
-      ap (separator_end m e a) next.pieces ∙ rw blank (one_more (separator_from m (meant ps)) e a b ps)
+      ap (separator_end m e a) next.pieces ∙ rw blank (one_more (separator_from m (characters_of ps)) e a b ps)
 
   pub separator_mark : (b : ℕ) → IsChar s a b → is_blank b ≡ false → m ≡ false → is_separator b ≡ true
       → separator_end m e a (pieces_in (drop a s)) ≡ separator_end true (a + 1) (a + 1) (pieces_in (drop (a + 1) s))
   separator_mark b next blank fresh mark =
       let ps = pieces_in (drop (a + 1) s) in
-      ap (separator_end m e a) next.pieces ∙ rw (blank, fresh, mark) (one_more (separator_from true (meant ps)) e a b ps)
+      ap (separator_end m e a) next.pieces ∙ rw (blank, fresh, mark) (one_more (separator_from true (characters_of ps)) e a b ps)
 
   pub separator_stop : (b : ℕ) → IsChar s a b → is_blank b ≡ false → is_separator b ≡ false → separator_end m e a (pieces_in (drop a s)) ≡ e
   separator_stop b next blank other = ap (separator_end m e a) next.pieces ∙ other_ends m e a b (pieces_in (drop (a + 1) s)) blank other
@@ -138,13 +138,13 @@ module _ (s : List ℕ) (m : Bool) (e a : ℕ) where
   pub separator_joint : (n : ℕ) → IsJoint s a n → separator_end m e a (pieces_in (drop a s)) ≡ separator_end m e (a + n) (pieces_in (drop (a + n) s))
   separator_joint n next =
       let ps = pieces_in (drop (a + n) s) in
-      ap (separator_end m e a) next.pieces ∙ (past_joint (separator_from m (meant ps)) e a next.bytes ps ∙ ap (λ k. ends_at (separator_from m (meant ps)) e (a + k + length (raw (separator_front m ps)))) next.length_is)
+      ap (separator_end m e a) next.pieces ∙ (past_joint (separator_from m (characters_of ps)) e a next.bytes ps ∙ ap (λ k. ends_at (separator_from m (characters_of ps)) e (a + k + length (bytes_of (separator_front m ps)))) next.length_is)
 
   pub separator_over : pieces_in (drop a s) ≡ [] → separator_end m e a (pieces_in (drop a s)) ≡ e
   separator_over none = ap (separator_end m e a) none
 
 pub separator_from_start : (s : List ℕ) → separator_size s ≡ separator_end false 0 0 (pieces_in (drop 0 s))
-separator_from_start s = at_start (separator_from false (meant (pieces_in s))) (pieces_in s)
+separator_from_start s = at_start (separator_from false (characters_of (pieces_in s))) (pieces_in s)
 
 pub ruleset over_separator = (separator_blank, separator_mark, separator_stop, separator_full, separator_pair, separator_joint, separator_over, separator_from_start, next_none)
 
@@ -152,33 +152,33 @@ pub ruleset over_separator = (separator_blank, separator_mark, separator_stop, s
 
 module _ (s : List ℕ) (a : ℕ) where
   pub line_char : (b : ℕ) → IsChar s a b → line_size (drop a s) ≡ 1 + line_size (drop (a + 1) s)
-  line_char b next = ap (λ ps. length (raw ps)) next.pieces ∙ omega arith
+  line_char b next = ap (λ ps. length (bytes_of ps)) next.pieces ∙ omega arith
 
   pub line_pair : (c : ℕ) → IsPair s a c → line_size (drop a s) ≡ 2 + line_size (drop (a + 2) s)
-  line_pair c next = ap (λ ps. length (raw ps)) next.pieces ∙ omega arith
+  line_pair c next = ap (λ ps. length (bytes_of ps)) next.pieces ∙ omega arith
 
   pub line_joint : (n : ℕ) → IsJoint s a n → line_size (drop a s) ≡ n + line_size (drop (a + n) s)
   line_joint n next =
-      ap (λ ps. length (raw ps)) next.pieces
-      ∙ (length-append next.bytes (raw (pieces_in (drop (a + n) s))) ∙ ap (λ k. k + line_size (drop (a + n) s)) next.length_is)
+      ap (λ ps. length (bytes_of ps)) next.pieces
+      ∙ (length-append next.bytes (bytes_of (pieces_in (drop (a + n) s))) ∙ ap (λ k. k + line_size (drop (a + n) s)) next.length_is)
 
   pub line_over : pieces_in (drop a s) ≡ [] → line_size (drop a s) ≡ 0
-  line_over none = ap (λ ps. length (raw ps)) none
+  line_over none = ap (λ ps. length (bytes_of ps)) none
 
   module _ (out : List ℕ) where
-    pub meant_char : (b : ℕ) → IsChar s a b → out ++ meant (pieces_in (drop a s)) ≡ (out ++ b ∷ []) ++ meant (pieces_in (drop (a + 1) s))
-    meant_char b next = ap (λ ps. out ++ meant ps) next.pieces ∙ sym (append_assoc out (b ∷ []) (meant (pieces_in (drop (a + 1) s))))
+    pub characters_char : (b : ℕ) → IsChar s a b → out ++ characters_of (pieces_in (drop a s)) ≡ (out ++ b ∷ []) ++ characters_of (pieces_in (drop (a + 1) s))
+    characters_char b next = ap (λ ps. out ++ characters_of ps) next.pieces ∙ sym (append_assoc out (b ∷ []) (characters_of (pieces_in (drop (a + 1) s))))
 
-    pub meant_pair : (c : ℕ) → IsPair s a c → out ++ meant (pieces_in (drop a s)) ≡ ((out ++ 92 ∷ []) ++ c ∷ []) ++ meant (pieces_in (drop (a + 2) s))
-    meant_pair c next =
-        ap (λ ps. out ++ meant ps) next.pieces
-        ∙ (sym (append_assoc out (92 ∷ []) (c ∷ meant (pieces_in (drop (a + 2) s)))) ∙ sym (append_assoc (out ++ 92 ∷ []) (c ∷ []) (meant (pieces_in (drop (a + 2) s)))))
+    pub characters_pair : (c : ℕ) → IsPair s a c → out ++ characters_of (pieces_in (drop a s)) ≡ ((out ++ 92 ∷ []) ++ c ∷ []) ++ characters_of (pieces_in (drop (a + 2) s))
+    characters_pair c next =
+        ap (λ ps. out ++ characters_of ps) next.pieces
+        ∙ (sym (append_assoc out (92 ∷ []) (c ∷ characters_of (pieces_in (drop (a + 2) s)))) ∙ sym (append_assoc (out ++ 92 ∷ []) (c ∷ []) (characters_of (pieces_in (drop (a + 2) s)))))
 
-    pub meant_joint : (n : ℕ) → IsJoint s a n → out ++ meant (pieces_in (drop a s)) ≡ out ++ meant (pieces_in (drop (a + n) s))
-    meant_joint n next = ap (λ ps. out ++ meant ps) next.pieces
+    pub characters_joint : (n : ℕ) → IsJoint s a n → out ++ characters_of (pieces_in (drop a s)) ≡ out ++ characters_of (pieces_in (drop (a + n) s))
+    characters_joint n next = ap (λ ps. out ++ characters_of ps) next.pieces
 
-    pub meant_over : pieces_in (drop a s) ≡ [] → out ++ meant (pieces_in (drop a s)) ≡ out
-    meant_over none = ap (λ ps. out ++ meant ps) none ∙ append-nil out
+    pub characters_over : pieces_in (drop a s) ≡ [] → out ++ characters_of (pieces_in (drop a s)) ≡ out
+    characters_over none = ap (λ ps. out ++ characters_of ps) none ∙ append-nil out
 
   -- a character and a run of them behind it
   pub line_run : (b n : ℕ) (t : List ℕ) → IsChar s a b → t ≡ drop (a + 1) s → line_size t ≡ n + line_size (drop n t) → line_size (drop a s) ≡ 1 + n + line_size (drop (a + (1 + n)) s)
@@ -211,4 +211,4 @@ pub ruleset over_runs = (plain_char, plain_in_key, plain_no_slash, key_from_star
 
 pub ruleset over_line = (line_char, line_pair, line_joint, line_over, next_none)
 
-pub ruleset over_meant = (meant_char, meant_pair, meant_joint, meant_over, next_none)
+pub ruleset over_characters = (characters_char, characters_pair, characters_joint, characters_over, next_none)

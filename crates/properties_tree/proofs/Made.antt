@@ -6,7 +6,7 @@ use Rattle.std.proofs.lemmas.Bool.{cases_lt, cases_eq, eq-eqb, ne_eqb}
 use Rattle.rw_base.specs.declared.tree.Part.TheVariants as part
 use Rattle.rw_base.specs.declared.tree.NodeRow.{NodeRow}
 use Rattle.rw_base.specs.Arena.{IsTree, Tile, AreBelow, Runs, times, times_in, end_from, leaf_at, row_at, no_leaf, no_row}
-use Rattle.properties_tree.specs.Entries.{Entry, raw}
+use Rattle.properties_tree.specs.Entries.{Entry, bytes_of}
 use Rattle.properties_tree.specs.Layout.{leaves_from, entry_end, entry_row, entry_rows, entry_parts, file_row}
 
 -- ---- leaves
@@ -17,7 +17,7 @@ length-leaves_from at (e ∷ es) rest = let more = length-leaves_from (entry_end
 
 -- where the last leaf of an entry ends
 unfoldable pub ending_to : ℕ → Entry → ℕ
-ending_to at e = at + length e.prefix + length (raw e.key) + 0 + length (raw e.separator) + 0 + length (raw e.value) + 0 + length e.ending
+ending_to at e = at + length e.prefix + length (bytes_of e.key) + 0 + length (bytes_of e.separator) + 0 + length (bytes_of e.value) + 0 + length e.ending
 
 pub ending_to-is : (at : ℕ) (e : Entry) → entry_end at e ≡ ending_to at e
 unfolding ending_to

@@ -4,43 +4,43 @@ use Rattle.std.proofs.Math.Seq.{take-add}
 use Rattle.std.proofs.lemmas.Bool.{cases_Bool}
 use Rattle.std.proofs.lemmas.List.{drop-drop}
 use Rattle.rw_base.specs.NaturalLines.{Line}
-use Rattle.properties_tree.specs.Lines.{goes_on, unblanked, is_empty_or_comment, is_passed_over}
-use Rattle.properties_tree.specs.Entries.{passed, entry, Logical, raw, meant, chars, joined, entries_of, grouped, logical_lines}
+use Rattle.properties_tree.specs.Lines.{is_continued, behind_blanks, is_empty_or_comment, is_passed_over}
+use Rattle.properties_tree.specs.Entries.{passed, entry, LogicalLine, bytes_of, characters_of, chars, join_lines, entries_of, group_lines, logical_lines}
 use Rattle.properties_tree.specs.Sizes.{text_length, ending_length, entries_from}
 use Rattle.properties_tree.proofs.FirstLine.{line_text, behind_text, ending_text, lines_behind, line_of, first_line, at_end, entries_behind}
 
 -- ---- lines that go on nowhere
 
-pub grouped-none : (lines : List Line) → (grouped false lines).0 ≡ []
-unfolding grouped
+pub grouped-none : (lines : List Line) → (group_lines false lines).0 ≡ []
+unfolding group_lines
 grouped-none [] = refl
 grouped-none (line ∷ lines) = elim (cases_Bool (is_passed_over line)) [ inl e ↦ rw e refl | inr e ↦ rw e refl ]
 
-pub grouped-passed : (line : Line) (lines : List Line) → is_passed_over line ≡ true → grouped false (line ∷ lines) ≡ ([], passed line ∷ (grouped false lines).1)
-unfolding grouped
+pub grouped-passed : (line : Line) (lines : List Line) → is_passed_over line ≡ true → group_lines false (line ∷ lines) ≡ ([], passed line ∷ (group_lines false lines).1)
+unfolding group_lines
 grouped-passed line lines e = rw e refl
 
 pub grouped-begins : (line : Line) (lines : List Line) → is_passed_over line ≡ false
-    → grouped false (line ∷ lines) ≡ ([], entry line (grouped (goes_on line.text) lines).0 ∷ (grouped (goes_on line.text) lines).1)
-unfolding grouped
+    → group_lines false (line ∷ lines) ≡ ([], entry line (group_lines (is_continued line.text) lines).0 ∷ (group_lines (is_continued line.text) lines).1)
+unfolding group_lines
 grouped-begins line lines e = rw e refl
 
 pub logical_passed : (line : Line) (lines : List Line) → is_passed_over line ≡ true → logical_lines (line ∷ lines) ≡ passed line ∷ logical_lines lines
-logical_passed line lines e = ap (λ (g : List Line × List Logical). g.1) (grouped-passed line lines e)
+logical_passed line lines e = ap (λ (g : List Line × List LogicalLine). g.1) (grouped-passed line lines e)
 
-pub joined-plain : (text ending : List ℕ) → goes_on text ≡ false → joined text ending [] ≡ record { pieces = chars text; ending = ending }
-unfolding joined
+pub joined-plain : (text ending : List ℕ) → is_continued text ≡ false → join_lines text ending [] ≡ record { pieces = chars text; ending = ending }
+unfolding join_lines
 joined-plain text ending stays = rw stays refl
 
 -- ---- characters alone
 
-pub meant-chars : (s : List ℕ) → meant (chars s) ≡ s
-meant-chars [] = refl
-meant-chars (b ∷ rest) = ap (λ t. b ∷ t) (meant-chars rest)
+pub characters_of-chars : (s : List ℕ) → characters_of (chars s) ≡ s
+characters_of-chars [] = refl
+characters_of-chars (b ∷ rest) = ap (λ t. b ∷ t) (characters_of-chars rest)
 
-pub raw-chars : (s : List ℕ) → raw (chars s) ≡ s
-raw-chars [] = refl
-raw-chars (b ∷ rest) = ap (λ t. b ∷ t) (raw-chars rest)
+pub bytes_of-chars : (s : List ℕ) → bytes_of (chars s) ≡ s
+bytes_of-chars [] = refl
+bytes_of-chars (b ∷ rest) = ap (λ t. b ∷ t) (bytes_of-chars rest)
 
 -- ---- what a text begins with
 
@@ -57,7 +57,7 @@ module _ (s : List ℕ) where
   rest_is : drop ending (behind_text s) ≡ drop (end + ending) s
   rest_is = drop-drop ending end s
 
-  pub passes : is_empty_or_comment (unblanked (line_text s)) ≡ true → (before : List ℕ) → entries_from before s ≡ entries_from (before ++ take (end + ending) s) (drop (end + ending) s)
+  pub passes : is_empty_or_comment (behind_blanks (line_text s)) ≡ true → (before : List ℕ) → entries_from before s ≡ entries_from (before ++ take (end + ending) s) (drop (end + ending) s)
   unfolding entries_from entries_of
   passes comment before =
       ap (λ ls. entries_of before (logical_lines ls)) (first_line s)

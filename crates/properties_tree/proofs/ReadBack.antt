@@ -3,23 +3,23 @@ use Rattle.std.proofs.Common.{◌≡◌, ℕ, ◌<◌, true, false, List, [], �
 use Rattle.std.specs.Prelude.{◌==◌, ◌||◌}
 use Rattle.std.proofs.lemmas.Bool.{cases_Bool, eqb-true, or_parts, or_cases, or_from}
 use Rattle.properties_tree.specs.Characters.{is_line_end, is_blank, is_separator, is_comment_mark, ends_key}
-use Rattle.properties_tree.specs.Lines.{unblanked}
-use Rattle.properties_tree.specs.Entries.{char, meant, chars, Properties, properties_of, no_entry}
+use Rattle.properties_tree.specs.Lines.{behind_blanks}
+use Rattle.properties_tree.specs.Entries.{char, characters_of, chars, Properties, properties_of, no_entry}
 use Rattle.properties_tree.specs.Sizes.{begins_no_entry, entries_from}
 use Rattle.properties_tree.specs.Cutting.{pieces_in, key_front}
-use Rattle.properties_tree.specs.Decoding.{byte, elements_of, text_of, decoded, key_text}
-use Rattle.properties_tree.specs.Spelling.{spelled, is_marked_in_key, spelled_key}
+use Rattle.properties_tree.specs.Decoding.{byte, elements_of, utf8_of, decode, key_text}
+use Rattle.properties_tree.specs.Spelling.{spell_byte, is_marked_in_key, spelled_key}
 use Rattle.properties_tree.specs.Laws.{BeginsWithKey}
-use Rattle.properties_tree.proofs.Plain.{meant-chars}
+use Rattle.properties_tree.proofs.Plain.{characters_of-chars}
 use Rattle.properties_tree.proofs.Cut.{at_char, at_pair}
 use Rattle.properties_tree.proofs.EntryAt.{entry_begins}
 use Rattle.properties_tree.proofs.First.{passed_over}
-use Rattle.properties_tree.specs.Decoding.{escaped}
+use Rattle.properties_tree.specs.Decoding.{escaped_byte}
 use Rattle.properties_tree.proofs.Decoded.{at_byte, at_escape, none_said}
 
 -- how a character is spelled: behind a backslash, or as it stands
 data Way (b : ℕ) : List ℕ → Type 0 where
-  marked : {c : ℕ} → is_line_end c ≡ false → (c == 117) ≡ false → escaped c ≡ b → Way b (92 ∷ c ∷ [])
+  marked : {c : ℕ} → is_line_end c ≡ false → (c == 117) ≡ false → escaped_byte c ≡ b → Way b (92 ∷ c ∷ [])
   alone : is_line_end b ≡ false → (b == 92) ≡ false → ends_key b ≡ false → is_comment_mark b ≡ false → Way b (b ∷ [])
 
 -- a character that a backslash stands before is that character
@@ -48,7 +48,7 @@ way_plain b tab lf cr feed none =
     let separator = two.1 in
     alone (rw (lf, cr) refl) parts.1 (or_from (is_separator b) (is_blank b) separator (rw (space, tab, feed) refl)) three.1
 
-way : (b : ℕ) → Way b (spelled (is_marked_in_key b) b)
+way : (b : ℕ) → Way b (spell_byte (is_marked_in_key b) b)
 way b =
     elim (cases_Bool (b == 9)) [
       | inl tab ↦ rw tab (marked refl refl (sym (eqb-true b 9 tab)))
@@ -73,29 +73,33 @@ key_grows : (b : ℕ) (w x : List ℕ) (front : List ℕ) → Way b w → key_fr
 key_grows b _ x front (marked {c = c} inside other says) more = ap key_front (at_pair 92 c x refl inside) ∙ ap (λ ps. char 92 ∷ char c ∷ ps) more
 key_grows b _ x front (alone inside other key comment) more = ap key_front (at_char b x inside other) ∙ (rw (other, key) refl ∙ ap (λ ps. char b ∷ ps) more)
 
-module _ (separator : ℕ) (text : List ℕ) (inside : is_line_end separator ≡ false) (other : (separator == 92) ≡ false) (ends : ends_key separator ≡ true) where
-  pub spelled_front : (key : List ℕ) → key_front (pieces_in (spelled_key key ++ separator ∷ text)) ≡ chars (spelled_key key)
-  unfolding spelled_key
-  spelled_front [] = ap key_front (at_char separator text inside other) ∙ rw (other, ends) refl
-  spelled_front (b ∷ rest) =
-      let w = spelled (is_marked_in_key b) b in
-      ap (λ t. key_front (pieces_in t)) (append_assoc w (spelled_key rest) (separator ∷ text))
-      ∙ key_grows b w (spelled_key rest ++ separator ∷ text) (spelled_key rest) (way b) (spelled_front rest)
+-- before a text that begins with no character of a key
+pub spelled_front : (tail : List ℕ) → key_front (pieces_in tail) ≡ [] → (key : List ℕ) → key_front (pieces_in (spelled_key key ++ tail)) ≡ chars (spelled_key key)
+unfolding spelled_key
+spelled_front tail stops [] = stops
+spelled_front tail stops (b ∷ rest) =
+    let w = spell_byte (is_marked_in_key b) b in
+    ap (λ t. key_front (pieces_in t)) (append_assoc w (spelled_key rest) tail)
+    ∙ key_grows b w (spelled_key rest ++ tail) (spelled_key rest) (way b) (spelled_front tail stops rest)
+
+-- as one that begins with a separator
+pub separator_stops : (separator : ℕ) (text : List ℕ) → is_line_end separator ≡ false → (separator == 92) ≡ false → ends_key separator ≡ true → key_front (pieces_in (separator ∷ text)) ≡ []
+separator_stops separator text inside other ends = ap key_front (at_char separator text inside other) ∙ rw (other, ends) refl
 
 says_one : (b : ℕ) (w x : List ℕ) → Way b w → elements_of (w ++ x) ≡ byte b ∷ elements_of x
 says_one b _ x (marked {c = c} inside other says) =
     at_escape 92 (c ∷ x) refl ∙ (rw other refl ∙ ap (λ k. byte k ∷ elements_of x) says)
 says_one b _ x (alone inside other key comment) = at_byte b x other
 
-spelled-decoded : (key : List ℕ) → decoded (spelled_key key) ≡ key
-unfolding spelled_key text_of
-spelled-decoded [] = ap text_of none_said
-spelled-decoded (b ∷ rest) = ap text_of (says_one b (spelled (is_marked_in_key b) b) (spelled_key rest) (way b)) ∙ ap (λ t. b ∷ t) (spelled-decoded rest)
+pub decode-spelled : (key : List ℕ) → decode (spelled_key key) ≡ key
+unfolding spelled_key utf8_of
+decode-spelled [] = ap utf8_of none_said
+decode-spelled (b ∷ rest) = ap utf8_of (says_one b (spell_byte (is_marked_in_key b) b) (spelled_key rest) (way b)) ∙ ap (λ t. b ∷ t) (decode-spelled rest)
 
 -- ---- a line that begins with a spelled key begins an entry
 
 pub record StartsEntry (s : List ℕ) : Type 0 where
-  pub blanks : unblanked s ≡ s
+  pub blanks : behind_blanks s ≡ s
   pub starts : begins_no_entry s ≡ false
 
 starts_with : (b : ℕ) (w x : List ℕ) → Way b w → StartsEntry (w ++ x)
@@ -105,12 +109,16 @@ starts_with b _ x (alone inside other key comment) =
     let blank = parts.1 in
     record { blanks = rw blank refl; starts = or_from (is_line_end b) (is_comment_mark b) inside comment }
 
-pub some_starts : (separator : ℕ) (text key : List ℕ) → 0 < length key → StartsEntry (spelled_key key ++ separator ∷ text)
+pub some_starts : (tail key : List ℕ) → 0 < length key → StartsEntry (spelled_key key ++ tail)
 unfolding spelled_key
-some_starts separator text [] some = absurd (omega arith)
-some_starts separator text (b ∷ rest) some =
-    let w = spelled (is_marked_in_key b) b in
-    subst StartsEntry (sym (append_assoc w (spelled_key rest) (separator ∷ text))) (starts_with b w (spelled_key rest ++ separator ∷ text) (way b))
+some_starts tail [] some = absurd (omega arith)
+some_starts tail (b ∷ rest) some =
+    let w = spell_byte (is_marked_in_key b) b in
+    subst StartsEntry (sym (append_assoc w (spelled_key rest) tail)) (starts_with b w (spelled_key rest ++ tail) (way b))
+
+-- a mark of a separator does too
+pub mark_starts : (separator : ℕ) (text : List ℕ) → is_line_end separator ≡ false → is_blank separator ≡ false → is_comment_mark separator ≡ false → StartsEntry (separator ∷ text)
+mark_starts separator text inside dark mark = record { blanks = rw dark refl; starts = or_from (is_line_end separator) (is_comment_mark separator) inside mark }
 
 first_entry : (s : List ℕ) (key : List ℕ) → StartsEntry s → key_front (pieces_in s) ≡ chars (spelled_key key) → BeginsWithKey s key
 unfolding properties_of entries_from
@@ -119,17 +127,17 @@ first_entry s key starts front =
     record {
       some = subst (λ (p : Properties). 0 < length p.entries) (sym all) (omega arith);
       same = subst (λ (p : Properties). key_text (get_or p.entries 0 no_entry) ≡ key) (sym all)
-          (ap (λ t. decoded (meant (key_front (pieces_in t)))) starts.blanks ∙ (ap (λ ps. decoded (meant ps)) front ∙ (ap decoded (meant-chars (spelled_key key)) ∙ spelled-decoded key)));
+          (ap (λ t. decode (characters_of (key_front (pieces_in t)))) starts.blanks ∙ (ap (λ ps. decode (characters_of ps)) front ∙ (ap decode (characters_of-chars (spelled_key key)) ∙ decode-spelled key)));
     }
 
 pub some_reads_back : (separator : ℕ) → is_line_end separator ≡ false → (separator == 92) ≡ false → ends_key separator ≡ true
     → (key text : List ℕ) → 0 < length key → BeginsWithKey (spelled_key key ++ separator ∷ text) key
 some_reads_back separator inside other ends key text some =
-    first_entry (spelled_key key ++ separator ∷ text) key (some_starts separator text key some) (spelled_front separator text inside other ends key)
+    first_entry (spelled_key key ++ separator ∷ text) key (some_starts (separator ∷ text) key some) (spelled_front (separator ∷ text) (separator_stops separator text inside other ends) key)
 
 pub reads_back : (separator : ℕ) → is_line_end separator ≡ false → (separator == 92) ≡ false → ends_key separator ≡ true → is_blank separator ≡ false → is_comment_mark separator ≡ false
     → (key text : List ℕ) → BeginsWithKey (spelled_key key ++ separator ∷ text) key
 unfolding spelled_key
 reads_back separator inside other ends dark mark [] text =
-    first_entry (separator ∷ text) [] (record { blanks = rw dark refl; starts = or_from (is_line_end separator) (is_comment_mark separator) inside mark }) (spelled_front separator text inside other ends [])
+    first_entry (separator ∷ text) [] (mark_starts separator text inside dark mark) (spelled_front (separator ∷ text) (separator_stops separator text inside other ends) [])
 reads_back separator inside other ends dark mark (b ∷ rest) text = some_reads_back separator inside other ends (b ∷ rest) text (omega arith)

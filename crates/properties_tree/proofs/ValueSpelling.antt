@@ -4,12 +4,12 @@ use Rattle.std.specs.Prelude.{◌==◌}
 use Rattle.std.proofs.lemmas.Bool.{eqb-true, false≢true}
 use Rattle.std.proofs.lemmas.List.{at_drop_more, at_drop_all}
 use Rattle.properties_tree.specs.Entries.{begins_with_separator}
-use Rattle.properties_tree.specs.Spelling.{spelled, spelled_rest, spelled_spaces, spelled_value}
+use Rattle.properties_tree.specs.Spelling.{spell_byte, spelled_rest, spelled_spaces, spelled_value}
 
-pub rest_more : (out s : List ℕ) (i : ℕ) → i < length s → out ++ spelled_rest (drop i s) ≡ (out ++ spelled (get_or s i 0 == 92) (get_or s i 0)) ++ spelled_rest (drop (i + 1) s)
+pub rest_more : (out s : List ℕ) (i : ℕ) → i < length s → out ++ spelled_rest (drop i s) ≡ (out ++ spell_byte (get_or s i 0 == 92) (get_or s i 0)) ++ spelled_rest (drop (i + 1) s)
 unfolding spelled_rest
 rest_more out s i h =
-    ap (λ t. out ++ t) (at_drop_more spelled_rest s i 0 h) ∙ sym (append_assoc out (spelled (get_or s i 0 == 92) (get_or s i 0)) (spelled_rest (drop (i + 1) s)))
+    ap (λ t. out ++ t) (at_drop_more spelled_rest s i 0 h) ∙ sym (append_assoc out (spell_byte (get_or s i 0 == 92) (get_or s i 0)) (spelled_rest (drop (i + 1) s)))
 
 pub rest_all : (out s : List ℕ) (i : ℕ) → length s ≤ i → out ++ spelled_rest (drop i s) ≡ out
 unfolding spelled_rest

@@ -2,7 +2,7 @@
 use Rattle.std.specs.Prelude.{◌≡◌, ℕ, zero, suc, ◌+◌, ◌<◌, ◌≤◌, ◌==◌, ◌&&◌, not, Bool, true, false, List, [], ◌∷◌, ◌++◌, length, take, drop, if◌then◌else◌}
 use Rattle.properties_tree.specs.Characters.{is_line_end, is_blank, is_separator, backslash}
 use Rattle.properties_tree.specs.Lines.{leading_blanks}
-use Rattle.properties_tree.specs.Entries.{Piece, char, joint, raw, meant, through, key_length}
+use Rattle.properties_tree.specs.Entries.{Piece, char, joint, bytes_of, characters_of, take_characters, key_length}
 use Rattle.properties_tree.specs.Sizes.{ending_length}
 use Rattle.properties_tree.specs.declared.pieces.Next.{Next}
 use Rattle.properties_tree.specs.declared.pieces.Next.TheVariants as next
@@ -38,7 +38,7 @@ pieces_in text = pieces_behind 0 text
 
 -- the pieces of a key, and of a separator in which a mark has been or not, that stand at the front of pieces
 abbrev pub key_front : List Piece → List Piece
-key_front ps = through (key_length (meant ps)) ps
+key_front ps = take_characters (key_length (characters_of ps)) ps
 
 -- How many characters of a separator stand at the front of a text, where a mark has been or not.
 abbrev pub separator_from : Bool → List ℕ → ℕ
@@ -49,17 +49,17 @@ separator_from marked (b ∷ rest) =
     else 0
 
 abbrev pub separator_front : Bool → List Piece → List Piece
-separator_front marked ps = through (separator_from marked (meant ps)) ps
+separator_front marked ps = take_characters (separator_from marked (characters_of ps)) ps
 
 -- how many bytes they have
 abbrev pub key_size : List ℕ → ℕ
-key_size text = length (raw (key_front (pieces_in text)))
+key_size text = length (bytes_of (key_front (pieces_in text)))
 
 abbrev pub separator_size : List ℕ → ℕ
-separator_size text = length (raw (separator_front false (pieces_in text)))
+separator_size text = length (bytes_of (separator_front false (pieces_in text)))
 
 abbrev pub line_size : List ℕ → ℕ
-line_size text = length (raw (pieces_in text))
+line_size text = length (bytes_of (pieces_in text))
 
 -- ---- how far a key is read
 
@@ -70,7 +70,7 @@ ends_at (suc n) last past = past
 
 -- where a key ends whose last character so far ends at e, where these pieces stand next, at a
 abbrev pub key_end : ℕ → ℕ → List Piece → ℕ
-key_end e a ps = ends_at (key_length (meant ps)) e (a + length (raw (key_front ps)))
+key_end e a ps = ends_at (key_length (characters_of ps)) e (a + length (bytes_of (key_front ps)))
 
 -- ---- the next piece
 

@@ -2,7 +2,7 @@
 use Rattle.std.specs.Prelude.{◌≡◌, ℕ, ◌+◌, ◌<◌, ◌≤◌, Bool, false, IsTrue, List, [], ◌∷◌, ◌++◌, length, take, drop, slice_range, Option, None, Some, if◌then◌else◌}
 use Rattle.std.specs.Str.{bytes_eq}
 use Rattle.properties_tree.specs.Characters.{has_backslash}
-use Rattle.properties_tree.specs.Entries.{Entry, Properties, properties_of, raw}
+use Rattle.properties_tree.specs.Entries.{Entry, Properties, properties_of, bytes_of}
 use Rattle.properties_tree.specs.Decoding.{key_text}
 use Rattle.properties_tree.specs.Sizes.{BeginsEntry, BeginsPassed, whole_size}
 use Rattle.properties_tree.specs.declared.reader.Sizes.{Sizes}
@@ -14,13 +14,13 @@ use Rattle.properties_tree.specs.declared.keys.Seen.TheVariants as seen
 
 -- the bytes of an entry's key: these where it says the key, else its own
 abbrev pub key_or : List ℕ → List ℕ → Entry → List ℕ
-key_or key written e = if bytes_eq (key_text e) key then written else raw e.key
+key_or key written e = if bytes_eq (key_text e) key then written else bytes_of e.key
 
 -- entries whose keys are so, and what stands behind them
 abbrev pub entries_with : List ℕ → List ℕ → List Entry → List ℕ → List ℕ
 entries_with key written [] rest = rest
 entries_with key written (e ∷ es) rest =
-    (e.prefix ++ (key_or key written e ++ (raw e.separator ++ (raw e.value ++ e.ending)))) ++ entries_with key written es rest
+    (e.prefix ++ (key_or key written e ++ (bytes_of e.separator ++ (bytes_of e.value ++ e.ending)))) ++ entries_with key written es rest
 
 abbrev pub all_with : List ℕ → List ℕ → Properties → List ℕ
 all_with key written p = entries_with key written p.entries p.rest

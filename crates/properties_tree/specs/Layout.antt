@@ -7,7 +7,7 @@ use Rattle.rw_base.specs.declared.tree.NodeRow.{NodeRow}
 use Rattle.rw_base.specs.declared.tree.Part.{Part}
 use Rattle.rw_base.specs.declared.tree.Part.TheVariants as part
 use Rattle.properties_tree.specs.declared.layout.TheConstants.{KEY, SEPARATOR, VALUE, ENDING, END, FILE, ENTRY}
-use Rattle.properties_tree.specs.Entries.{Entry, properties_of, raw}
+use Rattle.properties_tree.specs.Entries.{Entry, properties_of, bytes_of}
 
 -- a leaf that begins at a byte
 abbrev pub leaf_from : ℕ → List ℕ → List ℕ → ℕ → Leaf
@@ -16,14 +16,14 @@ leaf_from at prefix text class =
 
 -- the byte behind an entry that begins at a byte
 abbrev pub entry_end : ℕ → Entry → ℕ
-entry_end at e = at + length e.prefix + length (raw e.key) + length (raw e.separator) + length (raw e.value) + length e.ending
+entry_end at e = at + length e.prefix + length (bytes_of e.key) + length (bytes_of e.separator) + length (bytes_of e.value) + length e.ending
 
 -- the four leaves of an entry
 abbrev pub entry_leaves : ℕ → Entry → List Leaf
 entry_leaves at e =
-    let key = leaf_from at e.prefix (raw e.key) KEY in
-    let separator = leaf_from key.to [] (raw e.separator) SEPARATOR in
-    let value = leaf_from separator.to [] (raw e.value) VALUE in
+    let key = leaf_from at e.prefix (bytes_of e.key) KEY in
+    let separator = leaf_from key.to [] (bytes_of e.separator) SEPARATOR in
+    let value = leaf_from separator.to [] (bytes_of e.value) VALUE in
     let ending = leaf_from value.to [] e.ending ENDING in
     key ∷ separator ∷ value ∷ ending ∷ []
 

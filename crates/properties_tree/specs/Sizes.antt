@@ -2,7 +2,7 @@
 use Rattle.std.specs.Prelude.{◌≡◌, ℕ, suc, ◌+◌, ◌<◌, ◌≤◌, ◌==◌, ◌||◌, Bool, true, List, [], ◌∷◌, ◌++◌, length, take, drop, if◌then◌else◌}
 use Rattle.properties_tree.specs.Characters.{is_line_end, is_comment_mark}
 use Rattle.rw_base.specs.NaturalLines.{begins_with_lf, lines_of}
-use Rattle.properties_tree.specs.Entries.{Entry, Piece, Properties, entries_of, logical_lines, raw}
+use Rattle.properties_tree.specs.Entries.{Entry, Piece, Properties, entries_of, logical_lines, bytes_of}
 use Rattle.properties_tree.specs.declared.reader.Sizes.{Sizes}
 use Rattle.properties_tree.specs.declared.reader.Found.{Found}
 use Rattle.properties_tree.specs.declared.reader.Found.TheVariants as found
@@ -43,9 +43,9 @@ pub record BeginsEntry (text : List ℕ) (z : Sizes) : Type 0 where
   pub separator : List Piece
   pub value : List Piece
   pub ending : List ℕ
-  pub key_size : length (raw key) ≡ z.key
-  pub separator_size : length (raw separator) ≡ z.separator
-  pub value_size : length (raw value) ≡ z.value
+  pub key_size : length (bytes_of key) ≡ z.key
+  pub separator_size : length (bytes_of separator) ≡ z.separator
+  pub value_size : length (bytes_of value) ≡ z.value
   pub ending_size : length ending ≡ z.ending
   pub some : 0 < whole_size z
   pub inside : whole_size z ≤ length text

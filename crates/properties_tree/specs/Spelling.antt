@@ -3,8 +3,8 @@ use Rattle.std.specs.Prelude.{ℕ, ◌==◌, ◌||◌, Bool, List, [], ◌∷◌
 use Rattle.properties_tree.specs.Characters.{is_separator, is_comment_mark, backslash}
 
 -- tab, LF, CR and form feed as escapes; another character as it stands, with a backslash before it where `marked`
-abbrev pub spelled : Bool → ℕ → List ℕ
-spelled marked b =
+abbrev pub spell_byte : Bool → ℕ → List ℕ
+spell_byte marked b =
     if b == 9 then backslash ∷ 116 ∷ []
     else if b == 10 then backslash ∷ 110 ∷ []
     else if b == 13 then backslash ∷ 114 ∷ []
@@ -18,12 +18,12 @@ is_marked_in_key b = b == 32 || is_separator b || is_comment_mark b || b == back
 
 unfoldable pub spelled_key : List ℕ → List ℕ
 spelled_key [] = []
-spelled_key (b ∷ rest) = spelled (is_marked_in_key b) b ++ spelled_key rest
+spelled_key (b ∷ rest) = spell_byte (is_marked_in_key b) b ++ spelled_key rest
 
 -- the characters of a value behind its leading spaces: backslashes are marked
 unfoldable pub spelled_rest : List ℕ → List ℕ
 spelled_rest [] = []
-spelled_rest (b ∷ rest) = spelled (b == backslash) b ++ spelled_rest rest
+spelled_rest (b ∷ rest) = spell_byte (b == backslash) b ++ spelled_rest rest
 
 -- the leading run of spaces, each marked, and the rest
 unfoldable pub spelled_spaces : List ℕ → List ℕ

@@ -1,6 +1,6 @@
 -- Decoding, one element at a time.
 use Rattle.std.specs.Prelude.{◌≡◌, ℕ, ◌+◌, ◌<◌, ◌≤◌, List, [], ◌∷◌, ◌++◌, Option, Some, None, length, drop}
-use Rattle.properties_tree.specs.Decoding.{Element, byte, code, elements_of, text_of}
+use Rattle.properties_tree.specs.Decoding.{Element, byte, code, elements_of, utf8_of}
 use Rattle.properties_tree.specs.declared.decoding.Step.{Step}
 use Rattle.properties_tree.specs.declared.decoding.Step.TheVariants as step
 
@@ -16,10 +16,10 @@ IsStep text at (step.Code u size) = Takes text at size (code u ∷ [])
 IsStep text at step.Nothing = elements_of (drop at text) ≡ []
 
 -- a code unit that is read, and not yet written
-abbrev pub waiting : Option ℕ → List Element
-waiting None = []
-waiting (Some u) = code u ∷ []
+abbrev pub waiting_elements : Option ℕ → List Element
+waiting_elements None = []
+waiting_elements (Some u) = code u ∷ []
 
 -- One code unit more: what is written and what waits are the same text as before, whatever stands behind.
-abbrev pub GoesOn : List ℕ → Option ℕ → ℕ → List ℕ → Option ℕ → Type 0
-GoesOn before pending u after next = (es : List Element) → before ++ text_of (waiting pending ++ code u ∷ es) ≡ after ++ text_of (waiting next ++ es)
+abbrev pub AddsCode : List ℕ → Option ℕ → ℕ → List ℕ → Option ℕ → Type 0
+AddsCode before pending u after next = (es : List Element) → before ++ utf8_of (waiting_elements pending ++ code u ∷ es) ≡ after ++ utf8_of (waiting_elements next ++ es)

@@ -1,11 +1,11 @@
 // What keys and values say.
 ghost use Rattle.std.specs.Prelude.{◌≡◌, ◌++◌, ◌<◌, ◌≤◌, length, true, encode_utf8, IfSome, IfOk, OnOk, OnSome};
-ghost use Rattle.properties_tree.specs.Entries.{meant};
+ghost use Rattle.properties_tree.specs.Entries.{characters_of};
 ghost use Rattle.properties_tree.specs.Cutting.{pieces_in};
-ghost use Rattle.properties_tree.specs.Decoding.{hex_value, four_hex, escaped, is_high, is_low, lone, pair_of, decoded, text_of};
-ghost use Rattle.properties_tree.specs.Steps.{IsStep, GoesOn, waiting};
+ghost use Rattle.properties_tree.specs.Decoding.{hex_value, four_hex, escaped_byte, is_high, is_low, lone_bytes, pair_of, decode, utf8_of};
+ghost use Rattle.properties_tree.specs.Steps.{IsStep, AddsCode, waiting_elements};
 
-use crate::pieces::meant_of;
+use crate::pieces::characters_of;
 use rw_base::Mem;
 use std::alloc::{AllocError, Global};
 
@@ -35,8 +35,8 @@ fn four_hex(text: &[u8]) -> Option<u16>
     Some(((a * 16 + b) * 16 + c) * 16 + d)
 }
 
-fn escaped(b: u8) -> u8
-    ensures { result ≡ escaped b }
+fn escaped_byte(b: u8) -> u8
+    ensures { result ≡ escaped_byte b }
 {
     match b {
         b't' => b'\t',
@@ -70,7 +70,7 @@ fn step_at(text: &[u8], at: usize) -> Step
     }
     let c = rest[0];
     if c != b'u' {
-        return Step::Byte(escaped(c), 2);
+        return Step::Byte(escaped_byte(c), 2);
     }
     match four_hex(&rest[1..]) {
         Some(unit) => Step::Code(unit, 6),
@@ -92,7 +92,7 @@ fn is_low(unit: u16) -> bool
 
 // The character of a code unit that is in no pair: a surrogate becomes U+FFFD.
 fn lone_char(unit: u16) -> char
-    ensures { encode_utf8 result ≡ lone unit }
+    ensures { encode_utf8 result ≡ lone_bytes unit }
 {
     if 0xd800 <= unit && unit <= 0xdfff {
         char::REPLACEMENT_CHARACTER
@@ -119,7 +119,7 @@ fn push_char(out: &mut Vec<u8>, c: char) -> Result<(), AllocError>
 // Writes a code unit that waits.
 #[tactic(auto, using(crate::proofs::Decoded::over_codes))]
 fn push_waiting(out: &mut Vec<u8>, pending: Option<u16>) -> Result<(), AllocError>
-    ensures { OnOk result (out.new.items ≡ out.old.items ++ text_of (waiting pending)) }
+    ensures { OnOk result (out.new.items ≡ out.old.items ++ utf8_of (waiting_elements pending)) }
 {
     match pending {
         None => Ok(()),
@@ -130,7 +130,7 @@ fn push_waiting(out: &mut Vec<u8>, pending: Option<u16>) -> Result<(), AllocErro
 // One code unit more. Gives the code unit that waits now.
 #[tactic(auto, using(crate::proofs::Decoded::over_codes))]
 fn push_code(out: &mut Vec<u8>, pending: Option<u16>, unit: u16) -> Result<Option<u16>, AllocError>
-    ensures { IfOk result (λ next. GoesOn out.old.items pending unit out.new.items next) }
+    ensures { IfOk result (λ next. AddsCode out.old.items pending unit out.new.items next) }
 {
     match pending {
         None => Ok(Some(unit)),
@@ -148,8 +148,8 @@ fn push_code(out: &mut Vec<u8>, pending: Option<u16>, unit: u16) -> Result<Optio
 
 // The text that characters of a logical line say.
 #[tactic(auto, using(crate::proofs::Decoded::over_steps))]
-fn decoded_of(alloc: Global, text: &[u8]) -> Mem<Vec<u8>>
-    ensures { IfOk result (λ out. out.items ≡ decoded text.now) }
+fn decode(alloc: Global, text: &[u8]) -> Mem<Vec<u8>>
+    ensures { IfOk result (λ out. out.items ≡ decode text.now) }
 {
     let mut out = Vec::new(alloc);
     let mut pending = None;
@@ -174,9 +174,9 @@ fn decoded_of(alloc: Global, text: &[u8]) -> Mem<Vec<u8>>
 }
 
 // The text that the bytes of a key or a value say.
-pub fn said_by(alloc: Global, part: &[u8]) -> Mem<Vec<u8>>
-    ensures { IfOk result (λ out. out.items ≡ decoded (meant (pieces_in part.now))) }
+pub fn decode_part(alloc: Global, part: &[u8]) -> Mem<Vec<u8>>
+    ensures { IfOk result (λ out. out.items ≡ decode (characters_of (pieces_in part.now))) }
 {
-    let characters = meant_of(alloc, part)?;
-    decoded_of(alloc, &characters)
+    let characters = characters_of(alloc, part)?;
+    decode(alloc, &characters)
 }

@@ -4,7 +4,7 @@ ghost use Rattle.properties_tree.specs.Decoding.{key_text, entry_at};
 ghost use Rattle.properties_tree.specs.Keys.{with_key, IsNextKey, IsStart, IsSeen};
 
 use crate::lines::{begins_no_entry, blanks_length, ending_length, text_length};
-use crate::pieces::{key_size_behind, line_size, plain_key};
+use crate::pieces::{key_size_behind, line_size, plain_key_length};
 use crate::tree::says_key;
 use memchr::memmem;
 use rw_base::Mem;
@@ -45,7 +45,7 @@ fn start_of(text: &[u8]) -> Start
         let end = text_length(text);
         return Start::Passed(end + ending_length(&text[end..]));
     }
-    let plain = plain_key(line);
+    let plain = plain_key_length(line);
     let key = key_size_behind(line, plain);
     let behind_key = &line[key..];
     let rest = line_size(behind_key);

@@ -11,14 +11,15 @@ mod option;
 mod pieces;
 mod reader;
 mod spelling;
-#[cfg(test)]
-mod tests;
 mod tree;
 
 pub use keys::{KeyPlace, next_with_key};
-pub use laws::{files_have_trees, keys_read_back, parts_are_the_file, values_read_back};
+pub use laws::{
+    classes_differ, files_have_trees, files_read_back, keys_read_back, parts_are_the_file,
+    values_read_back,
+};
 pub use layout::{END, ENDING, ENTRY, FILE, KEY, SEPARATOR, VALUE};
 pub use option::PropertiesChangePropertyKey;
 pub use reader::read_properties;
 pub use spelling::{spell_key, spell_value};
-pub use tree::{entry_count, has_key, key_leaf, key_of, value_of};
+pub use tree::{entry_count, has_key, key_leaf, key_of, prefix_of_entry, value_of};

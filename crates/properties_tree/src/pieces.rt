@@ -1,7 +1,7 @@
 // Logical lines, piece by piece.
 ghost use Rattle.std.specs.Prelude.{◌≡◌, ◌++◌, ◌∷◌, ◌+◌, ◌≤◌, length, take, drop, false, IfOk};
 ghost use Rattle.properties_tree.specs.Characters.{has_backslash};
-ghost use Rattle.properties_tree.specs.Entries.{meant};
+ghost use Rattle.properties_tree.specs.Entries.{characters_of};
 ghost use Rattle.properties_tree.specs.Cutting.{joins, joint_size, key_size, separator_size, line_size, pieces_in, key_end, IsNext};
 
 use crate::bytes::{ends_key, is_blank, is_line_end, is_plain, is_plain_in_key, is_separator};
@@ -61,7 +61,7 @@ fn next_at(text: &[u8], at: usize) -> Next
 
 // How many characters that stand for themselves a key begins with.
 #[tactic(auto, using(crate::proofs::Loops::over_runs))]
-pub fn plain_key(text: &[u8]) -> usize
+pub fn plain_key_length(text: &[u8]) -> usize
     ensures value { key_size text.now ≡ key_end result result (pieces_in (drop result text.now)) }
     ensures plain { has_backslash (take result text.now) ≡ false }
     ensures inside { result ≤ length text.now }
@@ -109,7 +109,7 @@ pub fn key_size(text: &[u8]) -> usize
     ensures value { result ≡ key_size text.now }
     ensures inside { result ≤ length text.now }
 {
-    key_size_behind(text, plain_key(text))
+    key_size_behind(text, plain_key_length(text))
 }
 
 // The bytes of the separator that a text begins with.
@@ -143,7 +143,7 @@ pub fn separator_size(text: &[u8]) -> usize
 
 // How many characters that stand for themselves a logical line begins with.
 #[tactic(auto, using(crate::proofs::Loops::over_runs))]
-fn plain_line(text: &[u8]) -> usize
+fn plain_line_length(text: &[u8]) -> usize
     ensures value { line_size text.now ≡ result + line_size (drop result text.now) }
     ensures inside { result ≤ length text.now }
 {
@@ -165,7 +165,7 @@ pub fn line_size(text: &[u8]) -> usize
     while at < text.len() {
         match next_at(text, at) {
             Next::End => return at,
-            Next::Char(_) => at += 1 + plain_line(&text[at + 1..]),
+            Next::Char(_) => at += 1 + plain_line_length(&text[at + 1..]),
             Next::Pair(_) => at += 2,
             Next::Joint(size) => at += size,
         }
@@ -174,9 +174,9 @@ pub fn line_size(text: &[u8]) -> usize
 }
 
 // The characters of the logical line that a text begins with.
-#[tactic(auto, using(crate::proofs::Loops::over_meant))]
-pub fn meant_of(alloc: Global, text: &[u8]) -> Mem<Vec<u8>>
-    ensures { IfOk result (λ out. out.items ≡ meant (pieces_in text.now)) }
+#[tactic(auto, using(crate::proofs::Loops::over_characters))]
+pub fn characters_of(alloc: Global, text: &[u8]) -> Mem<Vec<u8>>
+    ensures { IfOk result (λ out. out.items ≡ characters_of (pieces_in text.now)) }
 {
     let mut out = Vec::new(alloc);
     let mut at = 0;

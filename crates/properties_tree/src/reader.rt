@@ -169,7 +169,7 @@ fn read_line(
 }
 
 // The tree of a file that is read to its end.
-fn tree_read(
+fn finish_tree(
     alloc: Global,
     bytes: &[u8],
     from: usize,
@@ -229,5 +229,5 @@ pub fn read_properties(alloc: Global, bytes: &[u8]) -> Result<Tree, ReadFault>
         from = next.0;
         at = next.1;
     }
-    Ok(tree_read(alloc, bytes, from, leaves, nodes)?)
+    Ok(finish_tree(alloc, bytes, from, leaves, nodes)?)
 }

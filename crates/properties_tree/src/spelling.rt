@@ -1,6 +1,6 @@
 // Keys written so that reading them gives them back.
 ghost use Rattle.std.specs.Prelude.{◌≡◌, ◌++◌, IfOk, OnOk};
-ghost use Rattle.properties_tree.specs.Spelling.{spelled, is_marked_in_key, spelled_key, spelled_rest, spelled_value};
+ghost use Rattle.properties_tree.specs.Spelling.{spell_byte, is_marked_in_key, spelled_key, spelled_rest, spelled_value};
 
 use crate::bytes::{is_comment_mark, is_separator};
 use crate::lines::begins_with_separator;
@@ -14,7 +14,7 @@ fn is_marked_in_key(b: u8) -> bool
 }
 
 fn push_spelled(out: &mut Vec<u8>, marked: bool, b: u8) -> Result<(), AllocError>
-    ensures { OnOk result (out.new.items ≡ out.old.items ++ spelled marked b) }
+    ensures { OnOk result (out.new.items ≡ out.old.items ++ spell_byte marked b) }
 {
     match b {
         b'\t' => out.extend_from_slice(b"\\t"),

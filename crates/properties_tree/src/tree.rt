@@ -1,11 +1,11 @@
 // What the tree of a properties file says of its entries.
 ghost use Rattle.std.specs.Prelude.{◌≡◌, ◌<◌, ◌+◌, ◌*◌, ◌↔◌, false, IsTrue, IfOk, length};
 ghost use Rattle.properties_tree.specs.Characters.{has_backslash};
-ghost use Rattle.properties_tree.specs.Entries.{properties_of, raw};
+ghost use Rattle.properties_tree.specs.Entries.{properties_of, bytes_of};
 ghost use Rattle.properties_tree.specs.Decoding.{key_text, value_text, entry_at};
 ghost use Rattle.properties_tree.specs.Layout.{tree_of, key_leaf_of};
 
-use crate::decoding::said_by;
+use crate::decoding::decode_part;
 use rw_base::{Mem, NodeId, Tree};
 use std::alloc::Global;
 
@@ -37,9 +37,19 @@ pub fn key_leaf(tree: &Tree, bytes: &[u8], entry: NodeId) -> u32
 fn key_bytes<'b>(tree: &Tree, bytes: &'b [u8], entry: NodeId) -> &'b [u8]
     requires tree { tree.now ≡ tree_of bytes.now }
     requires there { entry.0 < length (properties_of bytes.now).entries }
-    ensures { result.now ≡ raw (entry_at bytes.now entry.0).key }
+    ensures { result.now ≡ bytes_of (entry_at bytes.now entry.0).key }
 {
     tree.text(bytes, key_leaf(tree, bytes, entry))
+}
+
+/// What stands before an entry, back to the entry before it: lines that are passed over, and the blanks of its own line.
+#[tactic(auto, using(crate::proofs::InTree::in_tree, crate::proofs::Prefixed::prefix_is))]
+pub fn prefix_of_entry<'b>(tree: &Tree, bytes: &'b [u8], entry: NodeId) -> &'b [u8]
+    requires tree { tree.now ≡ tree_of bytes.now }
+    requires there { entry.0 < length (properties_of bytes.now).entries }
+    ensures { result.now ≡ (entry_at bytes.now entry.0).prefix }
+{
+    tree.prefix(bytes, key_leaf(tree, bytes, entry))
 }
 
 // The bytes of an entry's value, as they stand in the file.
@@ -47,7 +57,7 @@ fn key_bytes<'b>(tree: &Tree, bytes: &'b [u8], entry: NodeId) -> &'b [u8]
 fn value_bytes<'b>(tree: &Tree, bytes: &'b [u8], entry: NodeId) -> &'b [u8]
     requires tree { tree.now ≡ tree_of bytes.now }
     requires there { entry.0 < length (properties_of bytes.now).entries }
-    ensures { result.now ≡ raw (entry_at bytes.now entry.0).value }
+    ensures { result.now ≡ bytes_of (entry_at bytes.now entry.0).value }
 {
     tree.text(bytes, tree.leaves_of(entry).1 - 2)
 }
@@ -61,7 +71,7 @@ pub fn key_of(alloc: Global, tree: &Tree, bytes: &[u8], entry: NodeId) -> Mem<Ve
     requires there { entry.0 < length (properties_of bytes.now).entries }
     ensures { IfOk result (λ key. key.items ≡ key_text (entry_at bytes.now entry.0)) }
 {
-    said_by(alloc, key_bytes(tree, bytes, entry))
+    decode_part(alloc, key_bytes(tree, bytes, entry))
 }
 
 /// The value of an entry, decoded as a key is.
@@ -71,7 +81,7 @@ pub fn value_of(alloc: Global, tree: &Tree, bytes: &[u8], entry: NodeId) -> Mem<
     requires there { entry.0 < length (properties_of bytes.now).entries }
     ensures { IfOk result (λ value. value.items ≡ value_text (entry_at bytes.now entry.0)) }
 {
-    said_by(alloc, value_bytes(tree, bytes, entry))
+    decode_part(alloc, value_bytes(tree, bytes, entry))
 }
 
 // Whether a backslash stands in these bytes, where it may be known that none does.
@@ -96,14 +106,14 @@ pub(crate) fn says_key(
     plain: bool,
     key: &[u8],
 ) -> Mem<bool>
-    requires part { part.now ≡ raw (entry_at bytes.now n).key }
+    requires part { part.now ≡ bytes_of (entry_at bytes.now n).key }
     requires plain { IsTrue plain → has_backslash part.now ≡ false }
     ensures { IfOk result (λ same. IsTrue same ↔ (key_text (entry_at bytes.now n) ≡ key.now)) }
 {
     let _ = bytes;
     let _ = n;
     if is_marked(part, plain) {
-        let said = said_by(alloc, part)?;
+        let said = decode_part(alloc, part)?;
         return Ok(said.as_slice() == key);
     }
     Ok(part == key)

@@ -21,8 +21,8 @@ returns-then-c-ne117 c =
     let all : T ≡ drop (c.args.at + 1) s = take_rest s (c.args.at + 1) in
     let long : length T ≡ length s - (c.args.at + 1) = ap length all ∙ length-drop (c.args.at + 1) s in
     let some : 0 < length T = omega arith in
-    step_escape s c.args.at c.requires 1 (byte c.escaped.result ∷ []) (eq-eqb _ 92 c.if-b-ne92.false)
-    (ap escape_of (sym all) ∙ (escape_other T some (ne_eqb _ 117 c.if-c-ne117.true) ∙ ap (λ (b : ℕ). record { elements = byte b ∷ []; size = 1 }) (sym c.escaped.ensures))) (omega arith)
+    step_escape s c.args.at c.requires 1 (byte c.escaped_byte.result ∷ []) (eq-eqb _ 92 c.if-b-ne92.false)
+    (ap escape_of (sym all) ∙ (escape_other T some (ne_eqb _ 117 c.if-c-ne117.true) ∙ ap (λ (b : ℕ). record { elements = byte b ∷ []; size = 1 }) (sym c.escaped_byte.ensures))) (omega arith)
 
 pub returns-in-Some : goal.returns-in-Some
 returns-in-Some c =

@@ -17,5 +17,5 @@ returns c = record {
       c.line_size-rest.ensures.value c.line_size-rest.ensures.inside c.ending_length-ending.ensures.value c.ending_length-ending.ensures.inside;
   no_slash = λ same.
       no_slash_found c.args.text.now c.requires c.blanks_length-blanks.result c.key_size_behind-key.result c.line_size-rest.result c.ending_length-ending.result
-      c.blanks_length-blanks.ensures.value c.blanks_length-blanks.ensures.inside c.plain_key-plain.result c.plain_key-plain.ensures.plain same;
+      c.blanks_length-blanks.ensures.value c.blanks_length-blanks.ensures.inside c.plain_key_length-plain.result c.plain_key_length-plain.ensures.plain same;
 }

@@ -1,5 +1,6 @@
 use Rattle.std.proofs.Common.{refl}
 use Rattle.properties_tree.proofs.ReadBack.{reads_back, some_reads_back}
+use Rattle.properties_tree.proofs.ValueBack.{key_alone_reads_back}
 use Rattle.properties_tree.proofs.laws.keys_read_back.Goals as goal
 
 pub returns-clause-equals : goal.returns-clause-equals
@@ -16,3 +17,6 @@ returns-clause-tab c = some_reads_back 9 refl refl refl
 
 pub returns-clause-form_feed : goal.returns-clause-form_feed
 returns-clause-form_feed c = some_reads_back 12 refl refl refl
+
+pub returns-clause-alone : goal.returns-clause-alone
+returns-clause-alone c = key_alone_reads_back

@@ -1,9 +1,9 @@
 use Rattle.std.proofs.Common.{◌≡◌, sym, ap, ◌∙◌}
 use Rattle.std.proofs.lemmas.Slice.Eq.{slice_eq-Decides}
 use Rattle.std.proofs.lemmas.Bool.Decides.{Decides-eqb}
-use Rattle.properties_tree.specs.Entries.{meant}
+use Rattle.properties_tree.specs.Entries.{characters_of}
 use Rattle.properties_tree.specs.Cutting.{pieces_in}
-use Rattle.properties_tree.specs.Decoding.{decoded, key_text, entry_at}
+use Rattle.properties_tree.specs.Decoding.{decode, key_text, entry_at}
 use Rattle.properties_tree.specs.Characters.{has_backslash}
 use Rattle.properties_tree.proofs.Alone.{key_said}
 use Rattle.properties_tree.proofs.Marked.{plain_key}
@@ -13,7 +13,7 @@ pub returns-then-is_marked : goal.returns-then-is_marked
 returns-then-is_marked c =
     let d = slice_eq-Decides Decides-eqb c.as_slice.result.now c.args.key.now c.eq.result c.eq.ensures in
     let same : c.as_slice.result.now ≡ key_text (entry_at c.args.bytes.now c.args.n) =
-    c.as_slice.ensures.value ∙ (c.in_ok-said.ensures ∙ (ap (λ t. decoded (meant (pieces_in t))) c.requires.part ∙ key_said c.args.bytes.now c.args.n)) in
+    c.as_slice.ensures.value ∙ (c.in_ok-said.ensures ∙ (ap (λ t. decode (characters_of (pieces_in t))) c.requires.part ∙ key_said c.args.bytes.now c.args.n)) in
     (λ equal. sym same ∙ d.0 equal, λ e. d.1 (same ∙ e))
 
 pub returns : goal.returns

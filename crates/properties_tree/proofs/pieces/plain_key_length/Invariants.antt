@@ -1,7 +1,7 @@
 use Rattle.std.proofs.Common.{◌≡◌, take, drop, false}
 use Rattle.properties_tree.specs.Characters.{has_backslash}
 use Rattle.properties_tree.specs.Cutting.{key_size, key_end, pieces_in}
-use Rattle.properties_tree.proofs.pieces.plain_key.Given as goal
+use Rattle.properties_tree.proofs.pieces.plain_key_length.Given as goal
 
 abbrev pub invariant-loop-i : goal.invariant-loop-i
 invariant-loop-i l = record {

@@ -1,11 +1,11 @@
 use Rattle.std.proofs.Common.{◌≡◌, ◌++◌, ◌-◌, ◌≤◌, length, drop}
-use Rattle.properties_tree.specs.Decoding.{decoded, text_of, elements_of}
-use Rattle.properties_tree.specs.Steps.{waiting}
-use Rattle.properties_tree.proofs.decoding.decoded_of.Given as goal
+use Rattle.properties_tree.specs.Entries.{characters_of}
+use Rattle.properties_tree.specs.Cutting.{pieces_in}
+use Rattle.properties_tree.proofs.pieces.characters_of.Given as goal
 
 abbrev pub invariant-loop-at : goal.invariant-loop-at
 invariant-loop-at l = record {
-  value : decoded l.text ≡ l.out.items ++ text_of (waiting l.pending ++ elements_of (drop l.at l.text));
+  value : characters_of (pieces_in l.text) ≡ l.out.items ++ characters_of (pieces_in (drop l.at l.text));
   inside : l.at ≤ length l.text;
 }
 

@@ -1,6 +1,6 @@
 use Rattle.std.proofs.Common.{◌∙◌}
 use Rattle.properties_tree.proofs.Goes.{tree_is, is_tree}
-use Rattle.properties_tree.proofs.reader.tree_read.Goals as goal
+use Rattle.properties_tree.proofs.reader.finish_tree.Goals as goal
 
 pub made-requires : goal.made-requires
 made-requires c =
