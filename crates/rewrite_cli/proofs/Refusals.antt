@@ -12,6 +12,7 @@ use Rattle.rw_host.specs.FileLaws.{all_bytes, length-first_bytes}
 use Rattle.rw_base.specs.declared.leaves.TheConstants.{MOST_BYTES}
 use Rattle.rewrite_cli.specs.declared.changes.Change.{Change}
 use Rattle.rewrite_cli.specs.Paths.{is_properties}
+use Rattle.properties_tree.specs.declared.option.PropertiesChangePropertyKey.{PropertiesChangePropertyKey}
 use Rattle.rewrite_cli.specs.Renaming.{accepted_renaming, is_refused, bytes_after}
 use Rattle.rewrite_cli.specs.Changes.{PathChange, change_at, is_refused_at, put_all, IsPart}
 use Rattle.rewrite_cli.specs.Pairs.{pairs}
@@ -33,47 +34,47 @@ pub pairs-push : (xs : List Change) (c : Change) → pairs (xs ++ c ∷ []) ≡ 
 unfolding pairs
 pairs-push xs c = map-append (λ (c : Change). (c.path, c.bytes.items)) xs (c ∷ [])
 
-module _ (old new path : List ℕ) where
+module _ (options : PropertiesChangePropertyKey) (path : List ℕ) where
   -- ---- a file that is no properties file, or isn't there
 
-  pub other_change : (o : Option (List ℕ)) → is_properties path ≡ false → change_at old new path o ≡ []
+  pub other_change : (o : Option (List ℕ)) → is_properties path ≡ false → change_at options path o ≡ []
   unfolding change_at bytes_after
   other_change None e = refl
   other_change (Some bytes) e = rw (e, same_bytes bytes) refl
 
-  pub other_refused : (o : Option (List ℕ)) → is_properties path ≡ false → is_refused_at old new path o ≡ false
+  pub other_refused : (o : Option (List ℕ)) → is_properties path ≡ false → is_refused_at options path o ≡ false
   unfolding is_refused_at is_refused
   other_refused None e = refl
   other_refused (Some bytes) e = rw e refl
 
-  pub absent_change : change_at old new path None ≡ []
+  pub absent_change : change_at options path None ≡ []
   unfolding change_at
   absent_change = refl
 
-  pub absent_refused : is_refused_at old new path None ≡ false
+  pub absent_refused : is_refused_at options path None ≡ false
   unfolding is_refused_at
   absent_refused = refl
 
   -- ---- what becomes of a properties file
 
   module _ (bytes : List ℕ) (properties : is_properties path ≡ true) where
-    pub refused_change : None ≡ accepted_renaming old new bytes → change_at old new path (Some bytes) ≡ []
+    pub refused_change : None ≡ accepted_renaming options bytes → change_at options path (Some bytes) ≡ []
     unfolding change_at bytes_after
     refused_change e = rw (properties, ← e, same_bytes bytes) refl
 
-    pub refused_refused : None ≡ accepted_renaming old new bytes → is_refused_at old new path (Some bytes) ≡ true
+    pub refused_refused : None ≡ accepted_renaming options bytes → is_refused_at options path (Some bytes) ≡ true
     unfolding is_refused_at is_refused
     refused_refused e = rw (properties, ← e) refl
 
-    pub accepted_refused : (text : List ℕ) → Some text ≡ accepted_renaming old new bytes → is_refused_at old new path (Some bytes) ≡ false
+    pub accepted_refused : (text : List ℕ) → Some text ≡ accepted_renaming options bytes → is_refused_at options path (Some bytes) ≡ false
     unfolding is_refused_at is_refused
     accepted_refused text e = rw (properties, ← e) refl
 
-    pub kept_change : Some bytes ≡ accepted_renaming old new bytes → change_at old new path (Some bytes) ≡ []
+    pub kept_change : Some bytes ≡ accepted_renaming options bytes → change_at options path (Some bytes) ≡ []
     unfolding change_at bytes_after
     kept_change e = rw (properties, ← e, same_bytes bytes) refl
 
-    pub made_change : (text : List ℕ) → bytes_eq text bytes ≡ false → Some text ≡ accepted_renaming old new bytes → change_at old new path (Some bytes) ≡ (path, text) ∷ []
+    pub made_change : (text : List ℕ) → bytes_eq text bytes ≡ false → Some text ≡ accepted_renaming options bytes → change_at options path (Some bytes) ≡ (path, text) ∷ []
     unfolding change_at bytes_after
     made_change text other e = rw (properties, ← e, other) refl
 
@@ -82,43 +83,43 @@ module _ (old new path : List ℕ) where
   long : (bytes : List ℕ) → MOST_BYTES < length bytes → MOST_BYTES < length (first_bytes (MOST_BYTES + 1) bytes)
   long bytes lt = omega (arith, length-first_bytes (MOST_BYTES + 1) bytes)
 
-  read_new_bytes : (bytes : List ℕ) → accepted_renaming old new (first_bytes (MOST_BYTES + 1) bytes) ≡ accepted_renaming old new bytes
+  read_new_bytes : (bytes : List ℕ) → accepted_renaming options (first_bytes (MOST_BYTES + 1) bytes) ≡ accepted_renaming options bytes
   read_new_bytes bytes = elim (cases_lt MOST_BYTES (length bytes)) [
-    | inl lt ↦ sym (too_large old new (first_bytes (MOST_BYTES + 1) bytes) (long bytes lt)) ∙ too_large old new bytes lt
-    | inr le ↦ ap (accepted_renaming old new) (all_bytes (MOST_BYTES + 1) bytes (omega arith))
+    | inl lt ↦ sym (too_large options (first_bytes (MOST_BYTES + 1) bytes) (long bytes lt)) ∙ too_large options bytes lt
+    | inr le ↦ ap (accepted_renaming options) (all_bytes (MOST_BYTES + 1) bytes (omega arith))
   ]
 
-  after_long : (bytes : List ℕ) → MOST_BYTES < length bytes → bytes_after old new path bytes ≡ bytes
+  after_long : (bytes : List ℕ) → MOST_BYTES < length bytes → bytes_after options path bytes ≡ bytes
   unfolding bytes_after
-  after_long bytes lt = rw (← too_large old new bytes lt) (elim (is_properties path) as (λ b. (if b then bytes else bytes) ≡ bytes) [ true ↦ refl | false ↦ refl ])
+  after_long bytes lt = rw (← too_large options bytes lt) (elim (is_properties path) as (λ b. (if b then bytes else bytes) ≡ bytes) [ true ↦ refl | false ↦ refl ])
 
-  read_long : (bytes : List ℕ) → MOST_BYTES < length bytes → change_at old new path (Some bytes) ≡ []
+  read_long : (bytes : List ℕ) → MOST_BYTES < length bytes → change_at options path (Some bytes) ≡ []
   unfolding change_at
   read_long bytes lt = rw (after_long bytes lt, same_bytes bytes) refl
 
-  read_change : (bytes : List ℕ) → change_at old new path (Some (first_bytes (MOST_BYTES + 1) bytes)) ≡ change_at old new path (Some bytes)
+  read_change : (bytes : List ℕ) → change_at options path (Some (first_bytes (MOST_BYTES + 1) bytes)) ≡ change_at options path (Some bytes)
   read_change bytes = elim (cases_lt MOST_BYTES (length bytes)) [
     | inl lt ↦ read_long (first_bytes (MOST_BYTES + 1) bytes) (long bytes lt) ∙ sym (read_long bytes lt)
-    | inr le ↦ ap (λ b. change_at old new path (Some b)) (all_bytes (MOST_BYTES + 1) bytes (omega arith))
+    | inr le ↦ ap (λ b. change_at options path (Some b)) (all_bytes (MOST_BYTES + 1) bytes (omega arith))
   ]
 
-  read_refused : (bytes : List ℕ) → is_refused_at old new path (Some (first_bytes (MOST_BYTES + 1) bytes)) ≡ is_refused_at old new path (Some bytes)
+  read_refused : (bytes : List ℕ) → is_refused_at options path (Some (first_bytes (MOST_BYTES + 1) bytes)) ≡ is_refused_at options path (Some bytes)
   unfolding is_refused_at is_refused
   read_refused bytes = ap (λ n. is_properties path && is_none n) (read_new_bytes bytes)
 
-  pub found_change : (o : Option (List ℕ)) (b : List ℕ) → Some b ≡ option_map (first_bytes (MOST_BYTES + 1)) o → change_at old new path (Some b) ≡ change_at old new path o
+  pub found_change : (o : Option (List ℕ)) (b : List ℕ) → Some b ≡ option_map (first_bytes (MOST_BYTES + 1)) o → change_at options path (Some b) ≡ change_at options path o
   found_change None b e = absurd (cc)
-  found_change (Some bytes) b e = ap (change_at old new path) e ∙ read_change bytes
+  found_change (Some bytes) b e = ap (change_at options path) e ∙ read_change bytes
 
-  pub found_refused : (o : Option (List ℕ)) (b : List ℕ) → Some b ≡ option_map (first_bytes (MOST_BYTES + 1)) o → is_refused_at old new path (Some b) ≡ is_refused_at old new path o
+  pub found_refused : (o : Option (List ℕ)) (b : List ℕ) → Some b ≡ option_map (first_bytes (MOST_BYTES + 1)) o → is_refused_at options path (Some b) ≡ is_refused_at options path o
   found_refused None b e = absurd (cc)
-  found_refused (Some bytes) b e = ap (is_refused_at old new path) e ∙ read_refused bytes
+  found_refused (Some bytes) b e = ap (is_refused_at options path) e ∙ read_refused bytes
 
-  pub not_found_change : (o : Option (List ℕ)) → None ≡ option_map (first_bytes (MOST_BYTES + 1)) o → change_at old new path o ≡ []
+  pub not_found_change : (o : Option (List ℕ)) → None ≡ option_map (first_bytes (MOST_BYTES + 1)) o → change_at options path o ≡ []
   not_found_change None e = absent_change
   not_found_change (Some bytes) e = absurd (cc)
 
-  pub not_found_refused : (o : Option (List ℕ)) → None ≡ option_map (first_bytes (MOST_BYTES + 1)) o → is_refused_at old new path o ≡ false
+  pub not_found_refused : (o : Option (List ℕ)) → None ≡ option_map (first_bytes (MOST_BYTES + 1)) o → is_refused_at options path o ≡ false
   not_found_refused None e = absent_refused
   not_found_refused (Some bytes) e = absurd (cc)
 

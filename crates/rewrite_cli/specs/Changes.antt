@@ -5,26 +5,27 @@ use Rattle.std.specs.Option.{option_map}
 use Rattle.std.specs.Str.{bytes_eq}
 use Rattle.std.specs.FinMap as map
 use Rattle.rw_host.specs.Files.{Files, SameElsewhere}
+use Rattle.properties_tree.specs.declared.option.PropertiesChangePropertyKey.{PropertiesChangePropertyKey}
 use Rattle.rewrite_cli.specs.Renaming.{bytes_after, is_refused}
 
 -- Each path has what the definition gives of the file that had it. So no path comes or goes.
-unfoldable pub AreRewritten : List ℕ → List ℕ → Files → Files → Type 0
-AreRewritten old new before after =
-    (path : List ℕ) → map.get after path ≡ option_map (bytes_after old new path) (map.get before path)
+unfoldable pub AreRewritten : PropertiesChangePropertyKey → Files → Files → Type 0
+AreRewritten options before after =
+    (path : List ℕ) → map.get after path ≡ option_map (bytes_after options path) (map.get before path)
 
 -- whether the file at a path is refused, and whether one of those at these paths is
-unfoldable pub is_refused_at : List ℕ → List ℕ → List ℕ → Option (List ℕ) → Bool
-is_refused_at old new path None = false
-is_refused_at old new path (Some bytes) = is_refused old new path bytes
+unfoldable pub is_refused_at : PropertiesChangePropertyKey → List ℕ → Option (List ℕ) → Bool
+is_refused_at options path None = false
+is_refused_at options path (Some bytes) = is_refused options path bytes
 
-abbrev pub any_refused : List ℕ → List ℕ → Files → List (List ℕ) → Bool
-any_refused old new files [] = false
-any_refused old new files (path ∷ paths) =
-    is_refused_at old new path (map.get files path) || any_refused old new files paths
+abbrev pub any_refused : PropertiesChangePropertyKey → Files → List (List ℕ) → Bool
+any_refused options files [] = false
+any_refused options files (path ∷ paths) =
+    is_refused_at options path (map.get files path) || any_refused options files paths
 
 -- whether a run refuses some file
-abbrev pub refuses_some : List ℕ → List ℕ → Files → Bool
-refuses_some old new files = any_refused old new files (map.keys files)
+abbrev pub refuses_some : PropertiesChangePropertyKey → Files → Bool
+refuses_some options files = any_refused options files (map.keys files)
 
 -- ---- changes in the order of paths
 
@@ -32,18 +33,18 @@ refuses_some old new files = any_refused old new files (map.keys files)
 abbrev pub PathChange : Type 0
 PathChange = List ℕ × List ℕ
 
-unfoldable pub change_at : List ℕ → List ℕ → List ℕ → Option (List ℕ) → List PathChange
-change_at old new path None = []
-change_at old new path (Some bytes) =
-    if bytes_eq (bytes_after old new path bytes) bytes then [] else (path, bytes_after old new path bytes) ∷ []
+unfoldable pub change_at : PropertiesChangePropertyKey → List ℕ → Option (List ℕ) → List PathChange
+change_at options path None = []
+change_at options path (Some bytes) =
+    if bytes_eq (bytes_after options path bytes) bytes then [] else (path, bytes_after options path bytes) ∷ []
 
-abbrev pub changes_at : List ℕ → List ℕ → Files → List (List ℕ) → List PathChange
-changes_at old new files [] = []
-changes_at old new files (path ∷ paths) = change_at old new path (map.get files path) ++ changes_at old new files paths
+abbrev pub changes_at : PropertiesChangePropertyKey → Files → List (List ℕ) → List PathChange
+changes_at options files [] = []
+changes_at options files (path ∷ paths) = change_at options path (map.get files path) ++ changes_at options files paths
 
 -- the changes that a run makes, in the order of their paths
-abbrev pub changes_of : List ℕ → List ℕ → Files → List PathChange
-changes_of old new files = changes_at old new files (map.keys files)
+abbrev pub changes_of : PropertiesChangePropertyKey → Files → List PathChange
+changes_of options files = changes_at options files (map.keys files)
 
 -- the files with these put, the first of them first
 abbrev pub put_all : List PathChange → Files → Files

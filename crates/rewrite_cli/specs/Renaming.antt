@@ -8,25 +8,21 @@ use Rattle.properties_tree.specs.Layout.{tree_of}
 use Rattle.conf_recipes.specs.PropertiesEdits.{edits_of}
 use Rattle.rewrite_cli.specs.Paths.{is_properties}
 
--- the options of the recipe that renames one key to another
-abbrev pub options_of : List ℕ → List ℕ → PropertiesChangePropertyKey
-options_of old new = record { old_property_key = old; new_property_key = new }
-
 -- the bytes of a properties file with the recipe's edits
-unfoldable pub renaming_of : List ℕ → List ℕ → List ℕ → List ℕ
-renaming_of old new bytes = new_text (tree_of bytes) bytes (edits_of bytes (options_of old new))
+unfoldable pub renaming_of : PropertiesChangePropertyKey → List ℕ → List ℕ
+renaming_of options bytes = new_text (tree_of bytes) bytes (edits_of bytes options)
 
 -- The new bytes of a properties file, none where it is refused: where it is too large, before or after.
-unfoldable pub accepted_renaming : List ℕ → List ℕ → List ℕ → Option (List ℕ)
-accepted_renaming old new bytes =
-    if nat_lt MOST_BYTES (length bytes) || nat_lt MOST_BYTES (length (renaming_of old new bytes))
+unfoldable pub accepted_renaming : PropertiesChangePropertyKey → List ℕ → Option (List ℕ)
+accepted_renaming options bytes =
+    if nat_lt MOST_BYTES (length bytes) || nat_lt MOST_BYTES (length (renaming_of options bytes))
     then None
-    else Some (renaming_of old new bytes)
+    else Some (renaming_of options bytes)
 
 -- whether a run refuses the file of this path and these bytes
-unfoldable pub is_refused : List ℕ → List ℕ → List ℕ → List ℕ → Bool
-is_refused old new path bytes = is_properties path && is_none (accepted_renaming old new bytes)
+unfoldable pub is_refused : PropertiesChangePropertyKey → List ℕ → List ℕ → Bool
+is_refused options path bytes = is_properties path && is_none (accepted_renaming options bytes)
 
 -- the bytes that a file has after a run: a file that is refused, or is no properties file, keeps its own
-unfoldable pub bytes_after : List ℕ → List ℕ → List ℕ → List ℕ → List ℕ
-bytes_after old new path bytes = if is_properties path then unwrap_or (accepted_renaming old new bytes) bytes else bytes
+unfoldable pub bytes_after : PropertiesChangePropertyKey → List ℕ → List ℕ → List ℕ
+bytes_after options path bytes = if is_properties path then unwrap_or (accepted_renaming options bytes) bytes else bytes

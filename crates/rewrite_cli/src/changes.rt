@@ -42,14 +42,10 @@ fn note_outcome(
 ) -> Result<(), StoreFault>
     requires { is_properties path ≡ true }
     ensures changes { OnOk result (
-        let old = options.now.old_property_key in
-        let new = options.now.new_property_key in
-        let change = change_at old new path (Some bytes.now) in
+        let change = change_at options.now path (Some bytes.now) in
         pairs found.new.changes.items ≡ pairs found.old.changes.items ++ change) }
     ensures refused { OnOk result (
-        let old = options.now.old_property_key in
-        let new = options.now.new_property_key in
-        found.new.any_refused ≡ (found.old.any_refused || is_refused_at old new path (Some bytes.now))) }
+        found.new.any_refused ≡ (found.old.any_refused || is_refused_at options.now path (Some bytes.now))) }
     ensures only_memory { OnErr result (result ≡ Err StoreFault.NoMemory) }
 {
     match outcome_of(alloc, bytes, options)? {
@@ -70,15 +66,11 @@ fn note_file<S: Store>(
     options: &PropertiesChangePropertyKey,
 ) -> Result<(), StoreFault>
     ensures changes { IsTrue S.tells_files → OnOk result (
-        let old = options.now.old_property_key in
-        let new = options.now.new_property_key in
-        let change = change_at old new path (map.get (S.files store.old) path) in
+        let change = change_at options.now path (map.get (S.files store.old) path) in
         pairs found.new.changes.items ≡ pairs found.old.changes.items ++ change) }
     ensures refused { IsTrue S.tells_files → OnOk result (
-        let old = options.now.old_property_key in
-        let new = options.now.new_property_key in
         let file = map.get (S.files store.old) path in
-        found.new.any_refused ≡ (found.old.any_refused || is_refused_at old new path file)) }
+        found.new.any_refused ≡ (found.old.any_refused || is_refused_at options.now path file)) }
     ensures files { S.files store.new ≡ S.files store.old }
     ensures not_many { result ≢ Err StoreFault.TooMany }
     ensures cause { result ≡ Err StoreFault.Failed → Rose (S.read_faults store.old) (S.read_faults store.new) }
@@ -103,13 +95,9 @@ pub fn find_changes<S: Store>(
     options: &PropertiesChangePropertyKey,
 ) -> Result<Found, StoreFault>
     ensures changes { IsTrue S.tells_files → IfOk result (λ found.
-        let old = options.now.old_property_key in
-        let new = options.now.new_property_key in
-        pairs found.changes.items ≡ changes_at old new (S.files store.old) paths.items) }
+        pairs found.changes.items ≡ changes_at options.now (S.files store.old) paths.items) }
     ensures refused { IsTrue S.tells_files → IfOk result (λ found.
-        let old = options.now.old_property_key in
-        let new = options.now.new_property_key in
-        found.any_refused ≡ any_refused old new (S.files store.old) paths.items) }
+        found.any_refused ≡ any_refused options.now (S.files store.old) paths.items) }
     ensures files { S.files store.new ≡ S.files store.old }
     ensures not_many { result ≢ Err StoreFault.TooMany }
     ensures cause { result ≡ Err StoreFault.Failed → Rose (S.read_faults store.old) (S.read_faults store.new) }

@@ -1,4 +1,18 @@
-//! Renames a key in the properties files of the current folder.
+//! The program: renames a key in the properties files of the current folder.
+//!
+//! ```text
+//! rewrite run org.openrewrite.properties.ChangePropertyKey shop.mail.host shop.mail.server
+//! ```
+//!
+//! `main` hands the words, the real folder and standard output to the call `rewrite`, which is written for any store
+//! and answers the exit status. After status 0 or 1 each path has exactly what the definition gives of the file that it
+//! had (`rewrite`, clause `files`), 1 comes exactly where a properties file is refused (`refused`, `done`), and 2
+//! exactly where the words are others (`usage`). At 4, 6 and 8 no file has changed (`unchanged`), and at 5 the first
+//! changes, in the order of their paths, were made (`part`).
+//!
+//! Definitions, in this order: `Words` (what the words ask for), `Paths` (which files are read), `Renaming` (the new
+//! bytes of one file), `Changes` (a whole run, and a run that was stopped), `Statuses`. `Outcomes` and `Pairs` serve
+//! private functions alone.
 #![tactic(auto)]
 
 mod changes;

@@ -33,10 +33,7 @@ pub fn outcome_of(
     bytes: &[u8],
     options: &PropertiesChangePropertyKey,
 ) -> Mem<Outcome>
-    ensures bytes { IfOk result (λ told.
-        let old = options.now.old_property_key in
-        let new = options.now.new_property_key in
-        bytes_told told bytes.now ≡ accepted_renaming old new bytes.now) }
+    ensures bytes { IfOk result (λ told. bytes_told told bytes.now ≡ accepted_renaming options.now bytes.now) }
     ensures other { IfOk result (λ told. IsOther told bytes.now) }
 {
     if bytes.len() > MOST_BYTES {

@@ -4,7 +4,7 @@ ghost use Rattle.std.specs.Prelude.{IsNone, IfOk, IfSome, map as map_list, strin
 ghost use Rattle.std.specs.Option.{option_map};
 ghost use Rattle.std.specs.FinMap as map;
 ghost use Rattle.rw_host.specs.Files.{Files, Rose};
-ghost use Rattle.rewrite_cli.specs.Words.{keys_of};
+ghost use Rattle.rewrite_cli.specs.Words.{keys_of, options_of, options_in};
 ghost use Rattle.rewrite_cli.specs.Changes.{AreRewritten, refuses_some, changes_of, IsPart};
 ghost use Rattle.rewrite_cli.specs.Statuses.{status_of, IsStatus};
 
@@ -34,21 +34,11 @@ fn status_of(fault: StoreFault) -> u8
 #[tactic(auto, using(crate::proofs::After::ran))]
 fn run<S: Store>(alloc: Global, store: &mut S, options: &PropertiesChangePropertyKey) -> u8
     ensures files { IsTrue S.tells_files → result ≤ 1 →
-        let old = options.now.old_property_key in
-        let new = options.now.new_property_key in
-        AreRewritten old new (S.files store.old) (S.files store.new) }
-    ensures refused { IsTrue S.tells_files → result ≡ 1 →
-        let old = options.now.old_property_key in
-        let new = options.now.new_property_key in
-        refuses_some old new (S.files store.old) ≡ true }
-    ensures done { IsTrue S.tells_files → result ≡ 0 →
-        let old = options.now.old_property_key in
-        let new = options.now.new_property_key in
-        refuses_some old new (S.files store.old) ≡ false }
+        AreRewritten options.now (S.files store.old) (S.files store.new) }
+    ensures refused { IsTrue S.tells_files → result ≡ 1 → refuses_some options.now (S.files store.old) ≡ true }
+    ensures done { IsTrue S.tells_files → result ≡ 0 → refuses_some options.now (S.files store.old) ≡ false }
     ensures part { IsTrue S.tells_files → result ≡ 5 →
-        let old = options.now.old_property_key in
-        let new = options.now.new_property_key in
-        IsPart (changes_of old new (S.files store.old)) (S.files store.old) (S.files store.new) }
+        IsPart (changes_of options.now (S.files store.old)) (S.files store.old) (S.files store.new) }
     ensures read_fault { result ≡ 4 → Rose (S.read_faults store.old) (S.read_faults store.new) }
     ensures write_fault { result ≡ 5 → Rose (S.write_faults store.old) (S.write_faults store.new) }
     ensures past_limit { IsTrue S.tells_files → result ≡ 8 → 100000 < map.len (S.files store.old) }
@@ -107,8 +97,7 @@ fn keys_of(words: &[String]) -> Option<(&[u8], &[u8])>
 
 // The options of the recipe that renames one key to another.
 fn options_of(alloc: Global, old: &[u8], new: &[u8]) -> Mem<PropertiesChangePropertyKey>
-    ensures old { IfOk result (λ options. options.old_property_key ≡ old.now) }
-    ensures new { IfOk result (λ options. options.new_property_key ≡ new.now) }
+    ensures { IfOk result (λ options. options ≡ options_of old.now new.now) }
 {
     Ok(PropertiesChangePropertyKey {
         old_property_key: Text::from_slice(alloc, old)?,
@@ -136,18 +125,21 @@ pub fn rewrite<S: Store, K: Sink, G: Gate>(
     _gate: &G,
 ) -> u8
     // 2 comes exactly where the words aren't those of a run.
-    ensures usage { result ≡ 2 ↔ IsNone (keys_of (map_list string_bytes words.now)) }
+    ensures usage { result ≡ 2 ↔ IsNone (options_in (map_list string_bytes words.now)) }
     ensures unused { result ≡ 2 → store.new ≡ store.old }
 
     // After 0 or 1 each path has what the definition gives of the file that it had.
-    ensures files { IsTrue S.tells_files → result ≤ 1 → IfSome (keys_of (map_list string_bytes words.now)) (λ keys.
-        AreRewritten keys.0 keys.1 (S.files store.old) (S.files store.new)) }
+    ensures files { IsTrue S.tells_files → result ≤ 1 →
+        IfSome (options_in (map_list string_bytes words.now)) (λ options.
+        AreRewritten options (S.files store.old) (S.files store.new)) }
 
     // 1 comes in place of 0 exactly where a properties file is refused.
-    ensures refused { IsTrue S.tells_files → result ≡ 1 → IfSome (keys_of (map_list string_bytes words.now)) (λ keys.
-        refuses_some keys.0 keys.1 (S.files store.old) ≡ true) }
-    ensures done { IsTrue S.tells_files → result ≡ 0 → IfSome (keys_of (map_list string_bytes words.now)) (λ keys.
-        refuses_some keys.0 keys.1 (S.files store.old) ≡ false) }
+    ensures refused { IsTrue S.tells_files → result ≡ 1 →
+        IfSome (options_in (map_list string_bytes words.now)) (λ options.
+        refuses_some options (S.files store.old) ≡ true) }
+    ensures done { IsTrue S.tells_files → result ≡ 0 →
+        IfSome (options_in (map_list string_bytes words.now)) (λ options.
+        refuses_some options (S.files store.old) ≡ false) }
 
     // 8 comes exactly where there are too many paths: no work is then done.
     ensures past_limit { IsTrue S.tells_files → result ≡ 8 → 100000 < map.len (S.files store.old) }
@@ -159,8 +151,9 @@ pub fn rewrite<S: Store, K: Sink, G: Gate>(
 
     // At 4, 6 and 8 no file has changed; at 5 the first of the changes were made.
     ensures unchanged { (result ≡ 4 ⊎ result ≡ 6 ⊎ result ≡ 8) → S.files store.new ≡ S.files store.old }
-    ensures part { IsTrue S.tells_files → result ≡ 5 → IfSome (keys_of (map_list string_bytes words.now)) (λ keys.
-        IsPart (changes_of keys.0 keys.1 (S.files store.old)) (S.files store.old) (S.files store.new)) }
+    ensures part { IsTrue S.tells_files → result ≡ 5 →
+        IfSome (options_in (map_list string_bytes words.now)) (λ options.
+        IsPart (changes_of options (S.files store.old)) (S.files store.old) (S.files store.new)) }
 
     // Nothing else is answered, and nothing is printed.
     ensures status { IsStatus result }

@@ -1,6 +1,7 @@
 // The top call over a store in memory in which one call fails: the status, and which files have their new bytes then.
 use crate::rewrite::rewrite;
-use rw_host::{MemorySink, MemoryStore, OpenGate, PathText, Store};
+use memory_stores::MemoryStore;
+use rw_host::{MemorySink, OpenGate, PathText, Store};
 use std::alloc::Global;
 use std::test::Fail;
 
@@ -46,7 +47,7 @@ fn run_failing_at(alloc: Global, call: u32) -> Result<(u8, usize), Fail> {
     let mut renamed = 0;
     for name in NAMES {
         match store.read(alloc, name, u32::MAX)? {
-            Some(bytes) if bytes.as_slice() == b"new=1" => renamed += 1,
+            Some(bytes) if bytes.as_slice() == b"new=1".as_slice() => renamed += 1,
             _ => break,
         }
     }

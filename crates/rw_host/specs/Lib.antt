@@ -1,9 +1,5 @@
 pub mod FileLaws
 pub mod Files
-pub mod Memory
 pub mod Path
 pub mod Room
-pub mod Rows
 pub mod Sink
-pub mod States
-pub mod Table

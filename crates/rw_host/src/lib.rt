@@ -13,14 +13,13 @@
 //! A store lists its paths in order, each once (`Store::list`, clauses `paths` and `in_order`), reads give the bytes
 //! that were written (`read`, `bytes`; `write`, `written`), a failed write or removal leaves every other path as it was
 //! (`write` and `remove`, `elsewhere`), and `Failed` is answered only where the count of that kind of call rose
-//! (`cause`, `count` and `other_count` of each call). The clauses on files hold of a store that tells them to proofs:
-//! `SteadyStore`, which never fails, and `MemoryStore`, whose calls fail exactly where it was asked to (`failed`). A
-//! real folder tells none, since others may change it. A sink has put the whole piece or a prefix of it (`Sink::put`,
-//! `whole` and `part`).
+//! (`cause`, `count` and `other_count` of each call). The clauses on files hold of a store that tells them to proofs. A
+//! real folder tells none, since others may change it; those of the crate `memory_stores` do. A sink has put the whole
+//! piece or a prefix of it (`Sink::put`, `whole` and `part`).
 //!
 //! Definitions, in this order: `Files` (files as a map from paths to bytes, the order of paths, a count that rose),
-//! `Path` (which texts are paths), `Sink`; for `SteadyStore` `Table`, and for `MemoryStore` `States` and `Memory`.
-//! `Rows` and `Room` serve private functions alone, and `FileLaws` has laws of `Files` for the proofs of crates above.
+//! `Path` (which texts are paths), `Sink`. `Room` serves private functions alone, and `FileLaws` has laws of `Files`
+//! for the proofs of crates above.
 #![tactic(auto)]
 
 mod fault;
@@ -29,21 +28,15 @@ mod folder;
 mod full;
 mod gate;
 mod listing;
-mod memory;
 mod path;
 mod sink;
-mod state;
-mod steady;
 mod store;
-mod table;
 mod unsynced;
 
 pub use fault::{Failed, StoreFault};
 pub use file::{FileEdit, SourceFile};
 pub use folder::FolderStore;
 pub use gate::{Gate, OpenGate};
-pub use memory::MemoryStore;
 pub use path::PathText;
 pub use sink::{MemorySink, Sink, StdSink};
-pub use steady::SteadyStore;
 pub use store::Store;

@@ -56,8 +56,8 @@ impl PathText {
         }
     }
 
-    // The same path again.
-    pub(crate) fn copy(&self, alloc: Global) -> Mem<PathText>
+    /// The same path again.
+    pub fn copy(&self, alloc: Global) -> Mem<PathText>
         ensures { IfOk result (λ copy. copy ≡ self.now) }
     {
         let text = String::from_str(alloc, self.text.as_str())?;

@@ -1,0 +1,7 @@
+use Rattle.std.proofs.Common.{ap, ◌∙◌}
+use Rattle.memory_stores.specs.States.{now_of}
+use Rattle.memory_stores.proofs.Now.{now_given}
+use Rattle.memory_stores.proofs.steady.SteadyStore.new.Goals as goal
+
+pub returns : goal.returns
+returns c = record { files = ap now_of c.in_ok-table.ensures ∙ now_given c.args.files.items }

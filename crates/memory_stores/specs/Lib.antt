@@ -1,0 +1,4 @@
+pub mod Memory
+pub mod Rows
+pub mod States
+pub mod Table
