@@ -16,14 +16,14 @@ use Rattle.rw_base.specs.declared.edit.Edit.{Edit}
 use Rattle.rw_base.specs.declared.node_edits.Task.{Task}
 use Rattle.rw_base.specs.declared.node_edits.Task.TheVariants as task
 use Rattle.rw_base.specs.Arena.{Arena, AreBelow, leaf_at, parts_of, prefix_of, text_of}
-use Rattle.rw_base.specs.NewText.{leaf_edit, items_text, without_front, joined, leaf_new, item_new, items_new, node_new, IsSpot, IsItemOf, AreEdits}
+use Rattle.rw_base.specs.NewText.{leaf_edit, items_text, without_front, join_parts, leaf_new, item_new, items_new, node_new, IsSpot, IsItemOf, AreEdits}
 use Rattle.rw_base.specs.Gaps.{range_of}
 use Rattle.rw_base.specs.Joins.{PartsHold, joined_append}
 use Rattle.rw_base.specs.Starts.{leaf_range}
 use Rattle.rw_base.specs.EditLaws.{items_fit, new_parts, new_items, same_leaf, same_node}
 use Rattle.rw_base.specs.PartLaws.{by_nodes}
 use Rattle.rw_base.specs.Chosen.{no_edit, leaf_spot, node_spot, items_of, AreUntouched}
-use Rattle.rw_base.specs.Tasks.{cut, edit_items, part_new, task_done, all_done, IsTask, IsInTree, Follows, IsChosen}
+use Rattle.rw_base.specs.Tasks.{cut, edit_items, part_new, after_task, after_tasks, IsTask, IsInTree, Follows, IsChosen}
 use Rattle.rw_base.proofs.NewTextLemmas.{chosen_some, chosen_none, leaf_some, leaf_none}
 
 -- ---- fronts
@@ -68,48 +68,48 @@ front_off front rest =
 -- ---- tasks
 
 module _ (t : Arena) (bytes : List ℕ) (edits : List Edit) where
-  done_append : (xs ys : List Task) (text : List ℕ) → all_done t bytes edits (xs ++ ys) text ≡ all_done t bytes edits xs (all_done t bytes edits ys text)
-  unfolding all_done
+  done_append : (xs ys : List Task) (text : List ℕ) → after_tasks t bytes edits (xs ++ ys) text ≡ after_tasks t bytes edits xs (after_tasks t bytes edits ys text)
+  unfolding after_tasks
   done_append [] ys text = refl
-  done_append (x ∷ xs) ys text = ap (task_done t bytes edits x) (done_append xs ys text)
+  done_append (x ∷ xs) ys text = ap (after_task t bytes edits x) (done_append xs ys text)
 
   -- the last task is done first
-  pub done_push : (xs : List Task) (x : Task) (text : List ℕ) → all_done t bytes edits (xs ++ x ∷ []) text ≡ all_done t bytes edits xs (task_done t bytes edits x text)
-  unfolding all_done
+  pub done_push : (xs : List Task) (x : Task) (text : List ℕ) → after_tasks t bytes edits (xs ++ x ∷ []) text ≡ after_tasks t bytes edits xs (after_task t bytes edits x text)
+  unfolding after_tasks
   done_push xs x text = done_append xs (x ∷ []) text
 
   -- a text put before
   pub put_text : (xs : List Task) (text more now : List ℕ) → now ≡ more ++ text → Follows t bytes edits xs (more ++ text) xs now
-  put_text xs text more now e = record { text = ap (all_done t bytes edits xs) e; fit = λ all. all }
+  put_text xs text more now e = record { text = ap (after_tasks t bytes edits xs) e; fit = λ all. all }
 
-  pub put_task : (xs : List Task) (x : Task) (text now : List ℕ) → task_done t bytes edits x text ≡ now → IsTask t edits x → Follows t bytes edits xs now (xs ++ x ∷ []) text
-  put_task xs x text now e is = record { text = done_push xs x text ∙ ap (all_done t bytes edits xs) e; fit = λ all. All-push (IsTask t edits) xs x all is }
+  pub put_task : (xs : List Task) (x : Task) (text now : List ℕ) → after_task t bytes edits x text ≡ now → IsTask t edits x → Follows t bytes edits xs now (xs ++ x ∷ []) text
+  put_task xs x text now e is = record { text = done_push xs x text ∙ ap (after_tasks t bytes edits xs) e; fit = λ all. All-push (IsTask t edits) xs x all is }
 
   pub follow : (xs ys zs : List Task) (a b c : List ℕ) → Follows t bytes edits xs a ys b → Follows t bytes edits ys b zs c → Follows t bytes edits xs a zs c
   follow xs ys zs a b c f g = record { text = g.text ∙ f.text; fit = λ all. g.fit (f.fit all) }
 
   -- what is put before a text, and a task before that
-  pub put_before : (xs ys : List Task) (x : Task) (text more now : List ℕ) → IsTask t edits x → Follows t bytes edits (xs ++ x ∷ []) (more ++ text) ys now → Follows t bytes edits xs (task_done t bytes edits x (more ++ text)) ys now
+  pub put_before : (xs ys : List Task) (x : Task) (text more now : List ℕ) → IsTask t edits x → Follows t bytes edits (xs ++ x ∷ []) (more ++ text) ys now → Follows t bytes edits xs (after_task t bytes edits x (more ++ text)) ys now
   put_before xs ys x text more now is f = record { text = f.text ∙ done_push xs x (more ++ text); fit = λ all. f.fit (All-push (IsTask t edits) xs x all is) }
 
   -- ---- parts and items, from the last to the first
 
-  pub parts_none : (n : NodeId) (text : List ℕ) → task_done t bytes edits (task.Parts n 0) text ≡ text
-  unfolding task_done
+  pub parts_none : (n : NodeId) (text : List ℕ) → after_task t bytes edits (task.Parts n 0) text ≡ text
+  unfolding after_task
   parts_none n text = refl
 
   pub parts_more : (n : NodeId) (c : ℕ) (d : Part) (text : List ℕ) → c < length (parts_of t.nodes n.0)
-      → task_done t bytes edits (task.Parts n (c + 1)) text ≡ task_done t bytes edits (task.Parts n c) (part_new t bytes edits (get_or (parts_of t.nodes n.0) c d) ++ text)
-  unfolding task_done
+      → after_task t bytes edits (task.Parts n (c + 1)) text ≡ after_task t bytes edits (task.Parts n c) (part_new t bytes edits (get_or (parts_of t.nodes n.0) c d) ++ text)
+  unfolding after_task
   parts_more n c d text lt =
       let ps = parts_of t.nodes n.0 in
-      let join = joined (leaf_new t bytes edits) (node_new t bytes edits) in
+      let join = join_parts (leaf_new t bytes edits) (node_new t bytes edits) in
       let last = get_or ps c d in
       ap (λ qs. join qs ++ text) (take_more ps c d lt)
       ∙ (ap (λ w. w ++ text) (joined_append (leaf_new t bytes edits) (node_new t bytes edits) (take c ps) (last ∷ []) ∙ ap (λ w. join (take c ps) ++ w) (one last))
       ∙ append_assoc (join (take c ps)) (part_new t bytes edits last) text)
     where
-      one : (p : Part) → joined (leaf_new t bytes edits) (node_new t bytes edits) (p ∷ []) ≡ part_new t bytes edits p
+      one : (p : Part) → join_parts (leaf_new t bytes edits) (node_new t bytes edits) (p ∷ []) ≡ part_new t bytes edits p
       one (part.Leaf i) = append-nil (leaf_new t bytes edits i)
       one (part.Node m) = append-nil (node_new t bytes edits m.0)
 
@@ -117,13 +117,13 @@ module _ (t : Arena) (bytes : List ℕ) (edits : List Edit) where
   items_append f [] js = refl
   items_append f (i ∷ is) js = ap (λ w. item_new t bytes edits f i ++ w) (items_append f is js) ∙ sym (append_assoc (item_new t bytes edits f i) (items_new t bytes edits f is) (items_new t bytes edits f js))
 
-  pub items_none : (k : ℕ) (text : List ℕ) → task_done t bytes edits (task.Items k 0) text ≡ text
-  unfolding task_done
+  pub items_none : (k : ℕ) (text : List ℕ) → after_task t bytes edits (task.Items k 0) text ≡ text
+  unfolding after_task
   items_none k text = refl
 
   pub items_more : (k c : ℕ) (d : Item) (text : List ℕ) → c < length (edit_items edits k)
-      → task_done t bytes edits (task.Items k (c + 1)) text ≡ task_done t bytes edits (task.Items k c) (item_new t bytes edits (node_new t bytes edits) (get_or (edit_items edits k) c d) ++ text)
-  unfolding task_done
+      → after_task t bytes edits (task.Items k (c + 1)) text ≡ after_task t bytes edits (task.Items k c) (item_new t bytes edits (node_new t bytes edits) (get_or (edit_items edits k) c d) ++ text)
+  unfolding after_task
   items_more k c d text lt =
       let is = edit_items edits k in
       let join = items_new t bytes edits (node_new t bytes edits) in
@@ -192,24 +192,24 @@ module _ (t : Arena) (bytes : List ℕ) (edits : List Edit) (fit : AreEdits t ed
   put_untouched n d lt e = sym (untouched_kept n lt (get_or_default touched n true d (omega (arith, chosen.long)) ∙ e))
 
   pub put_parts : (n : NodeId) (d : Option ℕ) (text : List ℕ) → n.0 < length t.nodes → get_or nodes n.0 d ≡ None
-      → task_done t bytes edits (task.Parts n (length (parts_of t.nodes n.0))) text ≡ node_new t bytes edits n.0 ++ text
-  unfolding task_done
+      → after_task t bytes edits (task.Parts n (length (parts_of t.nodes n.0))) text ≡ node_new t bytes edits n.0 ++ text
+  unfolding after_task
   put_parts n d text lt e =
-      ap (λ ps. joined (leaf_new t bytes edits) (node_new t bytes edits) ps ++ text) (take_all (length (parts_of t.nodes n.0)) (parts_of t.nodes n.0) (omega arith))
+      ap (λ ps. join_parts (leaf_new t bytes edits) (node_new t bytes edits) ps ++ text) (take_all (length (parts_of t.nodes n.0)) (parts_of t.nodes n.0) (omega arith))
       ∙ ap (λ w. w ++ text) (sym (new_parts t chosen.tree bytes edits fit n.0 lt (chosen_none node_spot (length t.nodes) edits nodes n.0 d chosen.nodes lt e)))
 
-  all_items : (k : ℕ) (text : List ℕ) → task_done t bytes edits (task.Items k (length (edit_items edits k))) text ≡ items_new t bytes edits (node_new t bytes edits) (edit_items edits k) ++ text
-  unfolding task_done
+  all_items : (k : ℕ) (text : List ℕ) → after_task t bytes edits (task.Items k (length (edit_items edits k))) text ≡ items_new t bytes edits (node_new t bytes edits) (edit_items edits k) ++ text
+  unfolding after_task
   all_items k text = ap (λ is. items_new t bytes edits (node_new t bytes edits) is ++ text) (take_all (length (edit_items edits k)) (edit_items edits k) (omega arith))
 
   pub put_items : (n k : ℕ) (d : Option ℕ) (text : List ℕ) → n < length t.nodes → get_or nodes n d ≡ Some k
-      → (k < length edits) × (task_done t bytes edits (task.Items k (length (edit_items edits k))) text ≡ node_new t bytes edits n ++ text)
+      → (k < length edits) × (after_task t bytes edits (task.Items k (length (edit_items edits k))) text ≡ node_new t bytes edits n ++ text)
   put_items n k d text lt e =
       let found = chosen_some node_spot (length t.nodes) edits nodes n k d no_edit chosen.nodes lt e in
       (found.0, all_items k text ∙ ap (λ w. w ++ text) (sym (new_items t chosen.tree bytes edits fit n (edit_items edits k) lt found.1)))
 
   pub put_word : (i k : ℕ) (d : Option ℕ) (text : List ℕ) → i < length t.leaves → get_or leaves i d ≡ Some k
-      → (k < length edits) × (task_done t bytes edits (task.Items k (length (edit_items edits k))) text ≡ without_front (prefix_of bytes (leaf_at t.leaves i)) (leaf_new t bytes edits i) ++ text)
+      → (k < length edits) × (after_task t bytes edits (task.Items k (length (edit_items edits k))) text ≡ without_front (prefix_of bytes (leaf_at t.leaves i)) (leaf_new t bytes edits i) ++ text)
   unfolding leaf_new
   put_word i k d text lt e =
       let found = chosen_some leaf_spot (length t.leaves) edits leaves i k d no_edit chosen.leaves lt e in
@@ -222,8 +222,8 @@ module _ (t : Arena) (bytes : List ℕ) (edits : List Edit) (fit : AreEdits t ed
             ∙ sym (front_off (prefix_of bytes (leaf_at t.leaves i)) (unwrap_or (leaf_edit edits i) (text_of bytes (leaf_at t.leaves i))))))),
       )
 
-  pub put_prefix : (i : ℕ) (text : List ℕ) → task_done t bytes edits (task.Prefix i) (without_front (prefix_of bytes (leaf_at t.leaves i)) (leaf_new t bytes edits i) ++ text) ≡ leaf_new t bytes edits i ++ text
-  unfolding leaf_new task_done
+  pub put_prefix : (i : ℕ) (text : List ℕ) → after_task t bytes edits (task.Prefix i) (without_front (prefix_of bytes (leaf_at t.leaves i)) (leaf_new t bytes edits i) ++ text) ≡ leaf_new t bytes edits i ++ text
+  unfolding leaf_new after_task
   put_prefix i text =
       let front = prefix_of bytes (leaf_at t.leaves i) in
       let word = unwrap_or (leaf_edit edits i) (text_of bytes (leaf_at t.leaves i)) in

@@ -7,4 +7,3 @@ pub mod Doing
 pub mod Touching
 pub mod TaskSteps
 pub mod Spans
-pub mod Calls

@@ -1,7 +1,7 @@
 -- One byte more of a place.
 use Rattle.std.proofs.Common.{◌≡◌, ℕ, ◌+◌, true, false, List, refl, add-one}
 use Rattle.std.specs.Prelude.{slice_index}
-use Rattle.rw_base.specs.Places.{ends_line, goes_on, line_of, column_of}
+use Rattle.rw_base.specs.Places.{ends_line, is_continuation, line_of, column_of}
 
 module _ (bytes : List ℕ) (k : ℕ) where
   pub line_ends : ends_line bytes k ≡ true → line_of bytes (k + 1) ≡ line_of bytes k + 1
@@ -16,11 +16,11 @@ module _ (bytes : List ℕ) (k : ℕ) where
   unfolding column_of
   column_begins e = rw (add-one, e) refl
 
-  pub column_stays : ends_line bytes k ≡ false → goes_on (slice_index bytes k) ≡ true → column_of bytes (k + 1) ≡ column_of bytes k
+  pub column_stays : ends_line bytes k ≡ false → is_continuation (slice_index bytes k) ≡ true → column_of bytes (k + 1) ≡ column_of bytes k
   unfolding column_of
   column_stays e g = rw (add-one, e, g) refl
 
-  pub column_rises : ends_line bytes k ≡ false → goes_on (slice_index bytes k) ≡ false → column_of bytes (k + 1) ≡ column_of bytes k + 1
+  pub column_rises : ends_line bytes k ≡ false → is_continuation (slice_index bytes k) ≡ false → column_of bytes (k + 1) ≡ column_of bytes k + 1
   unfolding column_of
   column_rises e g = rw (add-one, e, g) refl
 

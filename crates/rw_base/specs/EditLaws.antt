@@ -11,8 +11,8 @@ use Rattle.rw_base.specs.declared.edit.Spot.{Spot}
 use Rattle.rw_base.specs.declared.edit.Spot.TheVariants as spot
 use Rattle.rw_base.specs.declared.edit.Edit.{Edit}
 use Rattle.rw_base.specs.Arena.{Arena, IsTree, AreBelow, row_at, leaf_at, first_of, past_of, parts_of, prefix_of, text_of, end_of}
-use Rattle.rw_base.specs.Rows.{value_at}
-use Rattle.rw_base.specs.NewText.{same_spot, edit_at, node_edit, leaf_edit, without_front, front_of, joined, leaf_new, item_new, items_new, row_new, node_new, new_text, IsItemOf, AreEdits}
+use Rattle.rw_base.specs.RowLaws.{value_at}
+use Rattle.rw_base.specs.NewText.{same_spot, edit_at, node_edit, leaf_edit, without_front, front_of, join_parts, leaf_new, item_new, items_new, row_new, node_new, new_text, IsItemOf, AreEdits}
 use Rattle.rw_base.specs.Gaps.{start_of, range_of, Piece, gap, range, old_bytes, new_bytes, leaf_split, leaf_pieces, row_pieces, node_pieces, pieces_of}
 use Rattle.rw_base.specs.Joins.{PartsHold, hold_all, joined_same, joined_reads, joined_map, joined_run, empty_slice}
 use Rattle.rw_base.specs.Starts.{leaf_range, ranges_meet, one_range, whole_range}
@@ -79,7 +79,7 @@ module _ (t : Arena) (tree : IsTree t) (bytes : List ℕ) (edits : List Edit) (f
   new_at n lt = value_at [] (λ k r f. row_new t bytes edits f (node_edit edits k) r.parts) t.nodes n (row_at t.nodes n) (row_get t.nodes n lt)
       (λ f h q. row_reads n (node_edit edits n) (parts_of t.nodes n) refl (tree.below n lt) f h q)
 
-  pub new_parts : (n : ℕ) → n < length t.nodes → node_edit edits n ≡ None → node_new t bytes edits n ≡ joined (leaf_new t bytes edits) (node_new t bytes edits) (parts_of t.nodes n)
+  pub new_parts : (n : ℕ) → n < length t.nodes → node_edit edits n ≡ None → node_new t bytes edits n ≡ join_parts (leaf_new t bytes edits) (node_new t bytes edits) (parts_of t.nodes n)
   new_parts n lt e = new_at n lt ∙ ap (λ o. row_new t bytes edits (node_new t bytes edits) o (parts_of t.nodes n)) e
 
   pub new_items : (n : ℕ) (is : List Item) → n < length t.nodes → node_edit edits n ≡ Some is → node_new t bytes edits n ≡ items_new t bytes edits (node_new t bytes edits) is
@@ -147,7 +147,7 @@ module _ (t : Arena) (tree : IsTree t) (bytes : List ℕ) (edits : List Edit) (f
     where
       by_row : (n : ℕ) → n < length t.nodes → ((m : ℕ) → m < n → KeepsGaps m) → (o : Option (List Item)) → node_edit edits n ≡ o → KeepsGaps n
       by_row n lt below None e =
-          let pieces : node_pieces t bytes edits n ≡ joined (leaf_pieces t bytes edits) (node_pieces t bytes edits) (parts_of t.nodes n) =
+          let pieces : node_pieces t bytes edits n ≡ join_parts (leaf_pieces t bytes edits) (node_pieces t bytes edits) (parts_of t.nodes n) =
           pieces_at n lt ∙ ap (λ o. row_pieces t bytes edits n (node_pieces t bytes edits) o (parts_of t.nodes n)) e in
           record {
             old = ap old_bytes pieces

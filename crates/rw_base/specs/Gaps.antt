@@ -5,7 +5,7 @@ use Rattle.rw_base.specs.declared.tree.Part.{Part}
 use Rattle.rw_base.specs.declared.edit.Item.{Item}
 use Rattle.rw_base.specs.declared.edit.Edit.{Edit}
 use Rattle.rw_base.specs.Arena.{Arena, leaf_at, first_of, past_of, prefix_of, text_of, end_from}
-use Rattle.rw_base.specs.NewText.{joined, leaf_edit, node_edit, node_new}
+use Rattle.rw_base.specs.NewText.{join_parts, leaf_edit, node_edit, node_new}
 use Rattle.rw_base.specs.Rows.{value}
 
 -- the byte at which a leaf begins
@@ -42,7 +42,7 @@ module _ (t : Arena) (bytes : List ℕ) (edits : List Edit) where
 
   -- a node with an edit is one range, whatever edits lie below it
   abbrev pub row_pieces : ℕ → (ℕ → List Piece) → Option (List Item) → List Part → List Piece
-  row_pieces n f None parts = joined leaf_pieces f parts
+  row_pieces n f None parts = join_parts leaf_pieces f parts
   row_pieces n f (Some items) parts = range (range_of t bytes n) (node_new t bytes edits n) ∷ []
 
   unfoldable pub node_pieces : ℕ → List Piece

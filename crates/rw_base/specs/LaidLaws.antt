@@ -4,14 +4,8 @@ use Rattle.std.proofs.lemmas.List.{take_at, drop_at}
 use Rattle.rw_base.specs.declared.tree.Part.{Part}
 use Rattle.rw_base.specs.declared.tree.Part.TheVariants as part
 use Rattle.rw_base.specs.declared.tree.NodeRow.{NodeRow}
-use Rattle.rw_base.specs.Trees.{Trees, none, leaf, node, Forest, beside, leaves_in, width, size}
+use Rattle.rw_base.specs.Trees.{Trees, none, leaf, node, Forest, beside, leaves_in, width, size, trees_in}
 use Rattle.rw_base.specs.Laid.{parts_from, rows_from}
-
--- how many trees there are, those inside others not counted
-abbrev pub trees_in : {N L : Type 0} → Trees N L → ℕ
-trees_in none = 0
-trees_in (leaf i f) = 1 + trees_in f
-trees_in (node n k kids f) = 1 + trees_in f
 
 -- the row of a node whose first own node would get the number n, and whose first leaf is the one numbered at
 abbrev pub row_from : ℕ → ℕ → ℕ → Forest → NodeRow

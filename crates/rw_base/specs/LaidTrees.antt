@@ -8,28 +8,17 @@ use Rattle.rw_base.specs.declared.tree.Part.{Part}
 use Rattle.rw_base.specs.declared.tree.Part.TheVariants as part
 use Rattle.rw_base.specs.declared.tree.NodeRow.{NodeRow}
 use Rattle.rw_base.specs.Arena.{Arena, IsTree, Tile, AreBelow, Runs, leaf_at, row_at, no_row, kind_of, first_of, past_of, parts_of, times_in, times, end_of}
-use Rattle.rw_base.specs.Trees.{none, leaf, node, Forest, Numbered, leaves_in, width, size, relabelled}
-use Rattle.rw_base.specs.Rows.{value_at}
-use Rattle.rw_base.specs.Laid.{parts_from, rows_from, Grown, no_trees, planted, grown, kids_of, forest_of}
+use Rattle.rw_base.specs.Trees.{none, leaf, node, Forest, Numbered, leaves_in, width, size, relabel, numbers}
+use Rattle.rw_base.specs.RowLaws.{value_at}
+use Rattle.rw_base.specs.Laid.{parts_from, rows_from, laid_rows, laid, with_numbers, KindAndTrees, no_trees, trees_by, kind_and_trees, kids_of, forest_of}
 use Rattle.rw_base.specs.LaidLaws.{row_from, length-rows, length-leaves_in}
 
--- so many numbers, from one on
-abbrev pub numbers : ℕ → ℕ → List ℕ
-numbers from zero = []
-numbers from (suc n) = from ∷ numbers (from + 1) n
-
--- the same trees with the numbers that their rows give the nodes
-unfoldable pub numbered : ℕ → Forest → Numbered
-numbered n none = none
-numbered n (leaf i f) = leaf i (numbered n f)
-numbered n (node _ k kids f) = node (n + size kids) k (numbered n kids) (numbered (n + (size kids + 1)) f)
-
 -- without their numbers they are the trees
-pub without_numbers : (n : ℕ) (f : Forest) → relabelled (λ _. tt) (λ i. i) (numbered n f) ≡ f
-unfolding numbered
+pub without_numbers : (n : ℕ) (f : Forest) → relabel (λ _. tt) (λ i. i) (with_numbers n f) ≡ f
+unfolding with_numbers
 without_numbers n none = refl
 without_numbers n (leaf i f) = ap (leaf i) (without_numbers n f)
-without_numbers n (node _ k kids f) = ap (λ x. node tt k x (relabelled (λ _. tt) (λ i. i) (numbered (n + (size kids + 1)) f))) (without_numbers n kids) ∙ ap (node tt k kids) (without_numbers (n + (size kids + 1)) f)
+without_numbers n (node _ k kids f) = ap (λ x. node tt k x (relabel (λ _. tt) (λ i. i) (with_numbers (n + (size kids + 1)) f))) (without_numbers n kids) ∙ ap (node tt k kids) (without_numbers (n + (size kids + 1)) f)
 
 -- ---- leaves that are numbered one after another
 
@@ -221,22 +210,16 @@ times_inside m n at (node _ k kids f) low high =
 -- ---- the rows of one node over all leaves are a tree
 
 module _ (leaves : List Leaf) (k : ℕ) (kids : Forest) where
-  abbrev pub laid_rows : List NodeRow
-  laid_rows = rows_from 0 0 (node tt k kids none)
+  laid_stand : Stand (laid_rows k kids) 0 0 (node tt k kids none)
+  laid_stand = record { before = []; behind = []; long = refl; all = sym (append-nil (laid_rows k kids)) }
 
-  abbrev pub laid : Arena
-  laid = record { leaves = leaves; nodes = laid_rows; root = size kids }
-
-  laid_stand : Stand laid_rows 0 0 (node tt k kids none)
-  laid_stand = record { before = []; behind = []; long = refl; all = sym (append-nil laid_rows) }
-
-  laid_length : length laid_rows ≡ size kids + 1
+  laid_length : length (laid_rows k kids) ≡ size kids + 1
   laid_length = length-rows 0 0 (node tt k kids none) ∙ omega arith
 
-  laid_root : row_at laid_rows (size kids) ≡ row_from 0 0 k kids
-  laid_root = let same : 0 + size kids ≡ size kids = omega arith in ap (row_at laid_rows) (sym same) ∙ stand_row laid_rows 0 0 k kids none laid_stand
+  laid_root : row_at (laid_rows k kids) (size kids) ≡ row_from 0 0 k kids
+  laid_root = let same : 0 + size kids ≡ size kids = omega arith in ap (row_at (laid_rows k kids)) (sym same) ∙ stand_row (laid_rows k kids) 0 0 k kids none laid_stand
 
-  module _ (some : 0 < length leaves) (few : length leaves < 2 ^ 32) (tile : Tile 0 leaves) (end : (leaf_at leaves (length leaves - 1)).from ≡ end_of laid) (all : leaves_in kids ≡ numbers 0 (length leaves)) (few_nodes : size kids + 1 < 2 ^ 32) where
+  module _ (some : 0 < length leaves) (few : length leaves < 2 ^ 32) (tile : Tile 0 leaves) (end : (leaf_at leaves (length leaves - 1)).from ≡ end_of (laid leaves k kids)) (all : leaves_in kids ≡ numbers 0 (length leaves)) (few_nodes : size kids + 1 < 2 ^ 32) where
     length-numbers : (from n : ℕ) → length (numbers from n) ≡ n
     length-numbers from zero = refl
     length-numbers from (suc n) = omega (arith, length-numbers (from + 1) n)
@@ -248,10 +231,10 @@ module _ (leaves : List Leaf) (k : ℕ) (kids : Forest) where
     unfolding IsCounted
     laid_counted = subst (Count 0) (sym (append-nil (leaves_in kids) ∙ all)) (numbers_count 0 (length leaves))
 
-    laid_good : (m : ℕ) → m < length laid_rows → IsGood laid_rows (length leaves) m
-    laid_good m lt = rows_good laid_rows (length leaves) 0 0 (node tt k kids none) laid_stand laid_counted (omega (arith, wide)) m (omega arith) (omega (arith, laid_length))
+    laid_good : (m : ℕ) → m < length (laid_rows k kids) → IsGood (laid_rows k kids) (length leaves) m
+    laid_good m lt = rows_good (laid_rows k kids) (length leaves) 0 0 (node tt k kids none) laid_stand laid_counted (omega (arith, wide)) m (omega arith) (omega (arith, laid_length))
 
-    laid_once : (m : ℕ) → m < length laid_rows → times m laid_rows ≡ (if m == size kids then 0 else 1)
+    laid_once : (m : ℕ) → m < length (laid_rows k kids) → times m (laid_rows k kids) ≡ (if m == size kids then 0 else 1)
     unfolding parts_from is_here
     laid_once m lt =
         let once = times_inside m 0 0 (node tt k kids none) (omega arith) (omega (arith, laid_length)) in
@@ -260,7 +243,7 @@ module _ (leaves : List Leaf) (k : ℕ) (kids : Forest) where
           | inr other ↦ rw (ne_eqb m (size kids) other) (omega (arith, once, not_here m (0 + size kids) (λ e. other (omega arith))))
         ]
 
-    pub laid_is_tree : IsTree laid
+    pub laid_is_tree : IsTree (laid leaves k kids)
     laid_is_tree = record {
       some_leaf = some;
       leaf_count = few;
@@ -296,47 +279,47 @@ parts_nodes n top none h = tt
 parts_nodes n top (leaf i f) h = parts_nodes n top f h
 parts_nodes n top (node _ k kids f) h = (omega arith, parts_nodes (n + (size kids + 1)) top f (omega arith))
 
-planted_reads : (n : ℕ) (ps : List Part) → NodesBelow n ps → (f h : ℕ → Grown) → ((m : ℕ) → m < n → f m ≡ h m) → planted f ps ≡ planted h ps
+trees_by_reads : (n : ℕ) (ps : List Part) → NodesBelow n ps → (f h : ℕ → KindAndTrees) → ((m : ℕ) → m < n → f m ≡ h m) → trees_by f ps ≡ trees_by h ps
 unfolding NodesBelow
-planted_reads n [] b f h q = refl
-planted_reads n (part.Leaf i ∷ ps) b f h q = ap (leaf i) (planted_reads n ps b f h q)
-planted_reads n (part.Node m ∷ ps) b f h q =
-    ap (λ (x : Grown). node m.0 x.0 x.1 (planted f ps)) (q m.0 b.0) ∙ ap (node m.0 (h m.0).0 (h m.0).1) (planted_reads n ps b.1 f h q)
+trees_by_reads n [] b f h q = refl
+trees_by_reads n (part.Leaf i ∷ ps) b f h q = ap (leaf i) (trees_by_reads n ps b f h q)
+trees_by_reads n (part.Node m ∷ ps) b f h q =
+    ap (λ (x : KindAndTrees). node m.0 x.0 x.1 (trees_by f ps)) (q m.0 b.0) ∙ ap (node m.0 (h m.0).0 (h m.0).1) (trees_by_reads n ps b.1 f h q)
 
 -- a node's kind and trees, by its row
-pub grown_row : (rows : List NodeRow) (n : ℕ) (r : NodeRow) → slice_get rows n ≡ Some r → NodesBelow n r.parts → grown rows n ≡ (r.kind, forest_of rows r.parts)
-unfolding grown forest_of
-grown_row rows n r at b =
-    value_at no_trees (λ j x g. (x.kind, planted g x.parts)) rows n r at
-    (λ g h q. ap (λ (x : Numbered). (r.kind, x)) (planted_reads n r.parts b g h q))
+pub kind_and_trees_row : (rows : List NodeRow) (n : ℕ) (r : NodeRow) → slice_get rows n ≡ Some r → NodesBelow n r.parts → kind_and_trees rows n ≡ (r.kind, forest_of rows r.parts)
+unfolding kind_and_trees forest_of
+kind_and_trees_row rows n r at b =
+    value_at no_trees (λ j x g. (x.kind, trees_by g x.parts)) rows n r at
+    (λ g h q. ap (λ (x : Numbered). (r.kind, x)) (trees_by_reads n r.parts b g h q))
 
-stands : (rows : List NodeRow) (n at : ℕ) (f : Forest) → Stand rows n at f → forest_of rows (parts_from n f) ≡ numbered n f
-unfolding parts_from numbered forest_of
+stands : (rows : List NodeRow) (n at : ℕ) (f : Forest) → Stand rows n at f → forest_of rows (parts_from n f) ≡ with_numbers n f
+unfolding parts_from with_numbers forest_of
 stands rows n at none s = refl
 stands rows n at (leaf i f) s = ap (leaf i) (stands rows n (at + 1) f (stand_leaf rows n at i f s))
 stands rows n at (node _ k kids f) s =
     let rest = forest_of rows (parts_from (n + (size kids + 1)) f) in
-    let here : grown rows (n + size kids) ≡ (k, forest_of rows (parts_from n kids)) =
-    grown_row rows (n + size kids) (row_from n at k kids) (stand_get rows n at k kids f s) (parts_nodes n (n + size kids) kids (omega arith)) in
-    ap (λ (x : Grown). node (n + size kids) x.0 x.1 rest) here
+    let here : kind_and_trees rows (n + size kids) ≡ (k, forest_of rows (parts_from n kids)) =
+    kind_and_trees_row rows (n + size kids) (row_from n at k kids) (stand_get rows n at k kids f s) (parts_nodes n (n + size kids) kids (omega arith)) in
+    ap (λ (x : KindAndTrees). node (n + size kids) x.0 x.1 rest) here
     ∙ (ap (λ x. node (n + size kids) k x rest) (stands rows n at kids (stand_kids rows n at k kids f s))
-    ∙ ap (node (n + size kids) k (numbered n kids)) (stands rows (n + (size kids + 1)) (at + width kids) f (stand_rest rows n at k kids f s)))
+    ∙ ap (node (n + size kids) k (with_numbers n kids)) (stands rows (n + (size kids + 1)) (at + width kids) f (stand_rest rows n at k kids f s)))
 
 -- The parts of a forest stand for it, by its rows.
-pub forest_again : (f : Forest) → forest_of (rows_from 0 0 f) (parts_from 0 f) ≡ numbered 0 f
+pub forest_again : (f : Forest) → forest_of (rows_from 0 0 f) (parts_from 0 f) ≡ with_numbers 0 f
 forest_again f = stands (rows_from 0 0 f) 0 0 f (record { before = []; behind = []; long = refl; all = sym (append-nil (rows_from 0 0 f)) })
 
 -- So the node over a forest has its trees, and its kind.
-pub laid_kids : (leaves : List Leaf) (k : ℕ) (kids : Forest) → kids_of (laid_rows leaves k kids) (size kids) ≡ numbered 0 kids
-laid_kids leaves k kids = ap (λ (x : Grown). x.1) (laid_grown leaves k kids)
+pub laid_kids : (leaves : List Leaf) (k : ℕ) (kids : Forest) → kids_of (laid_rows k kids) (size kids) ≡ with_numbers 0 kids
+laid_kids leaves k kids = ap (λ (x : KindAndTrees). x.1) (laid_kind_and_trees leaves k kids)
   where
-    laid_grown : (leaves : List Leaf) (k : ℕ) (kids : Forest) → grown (laid_rows leaves k kids) (size kids) ≡ (k, numbered 0 kids)
-    laid_grown leaves k kids =
-        let rows = laid_rows leaves k kids in
+    laid_kind_and_trees : (leaves : List Leaf) (k : ℕ) (kids : Forest) → kind_and_trees (laid_rows k kids) (size kids) ≡ (k, with_numbers 0 kids)
+    laid_kind_and_trees leaves k kids =
+        let rows = laid_rows k kids in
         let s = laid_stand leaves k kids in
         let number : 0 + size kids ≡ size kids = omega arith in
-        ap (grown rows) (sym number) ∙ (grown_row rows (0 + size kids) (row_from 0 0 k kids) (stand_get rows 0 0 k kids none s) (parts_nodes 0 (0 + size kids) kids (omega arith))
+        ap (kind_and_trees rows) (sym number) ∙ (kind_and_trees_row rows (0 + size kids) (row_from 0 0 k kids) (stand_get rows 0 0 k kids none s) (parts_nodes 0 (0 + size kids) kids (omega arith))
         ∙ ap (λ (x : Numbered). (k, x)) (stands rows 0 0 kids (stand_kids rows 0 0 k kids none s)))
 
-pub laid_kind : (leaves : List Leaf) (k : ℕ) (kids : Forest) → kind_of (laid_rows leaves k kids) (size kids) ≡ k
+pub laid_kind : (leaves : List Leaf) (k : ℕ) (kids : Forest) → kind_of (laid_rows k kids) (size kids) ≡ k
 laid_kind leaves k kids = ap (λ (r : NodeRow). r.kind) (laid_root leaves k kids)

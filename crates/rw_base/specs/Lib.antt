@@ -4,6 +4,7 @@ pub mod KeptNodes
 pub mod Cut
 pub mod Trees
 pub mod Rows
+pub mod RowLaws
 pub mod Laid
 pub mod LaidLaws
 pub mod LaidTrees
@@ -21,4 +22,3 @@ pub mod Expressions
 pub mod Fronts
 pub mod Tasks
 pub mod Laws
-pub mod Calls

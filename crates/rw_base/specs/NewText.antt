@@ -53,10 +53,10 @@ unfoldable pub front_of : Arena → List ℕ → ℕ → List ℕ
 front_of t bytes n = if first_of t.nodes n == past_of t.nodes n then [] else prefix_of bytes (leaf_at t.leaves (first_of t.nodes n))
 
 -- parts one after another, by what each leaf and each node gives
-abbrev pub joined : {A : Type 0} → (ℕ → List A) → (ℕ → List A) → List Part → List A
-joined leaf node [] = []
-joined leaf node (part.Leaf i ∷ ps) = leaf i ++ joined leaf node ps
-joined leaf node (part.Node m ∷ ps) = node m.0 ++ joined leaf node ps
+abbrev pub join_parts : {A : Type 0} → (ℕ → List A) → (ℕ → List A) → List Part → List A
+join_parts leaf node [] = []
+join_parts leaf node (part.Leaf i ∷ ps) = leaf i ++ join_parts leaf node ps
+join_parts leaf node (part.Node m ∷ ps) = node m.0 ++ join_parts leaf node ps
 
 -- A tree that was read from these bytes, with edits.
 module _ (t : Arena) (bytes : List ℕ) (edits : List Edit) where
@@ -78,7 +78,7 @@ module _ (t : Arena) (bytes : List ℕ) (edits : List Edit) where
 
   -- a node joins the items of its edit, or else its parts
   abbrev pub row_new : (ℕ → List ℕ) → Option (List Item) → List Part → List ℕ
-  row_new f None parts = joined leaf_new f parts
+  row_new f None parts = join_parts leaf_new f parts
   row_new f (Some items) parts = items_new f items
 
   unfoldable pub node_new : ℕ → List ℕ

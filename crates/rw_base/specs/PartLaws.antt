@@ -9,27 +9,28 @@ use Rattle.rw_base.specs.declared.tree.Part.TheVariants as part
 use Rattle.rw_base.specs.declared.tree.NodeRow.{NodeRow}
 use Rattle.rw_base.specs.Arena.{Arena, IsTree, AreBelow, row_at, no_row, kind_of, parts_of}
 use Rattle.rw_base.specs.Trees.{none, leaf, node}
-use Rattle.rw_base.specs.Rows.{folded, folded_front}
-use Rattle.rw_base.specs.Laid.{Grown, no_trees, planted, grown, kids_of, forest_of}
-use Rattle.rw_base.specs.LaidTrees.{nodes_below, grown_row}
+use Rattle.rw_base.specs.Rows.{folded}
+use Rattle.rw_base.specs.RowLaws.{folded_front}
+use Rattle.rw_base.specs.Laid.{KindAndTrees, no_trees, trees_by, kind_and_trees, kids_of, forest_of}
+use Rattle.rw_base.specs.LaidTrees.{nodes_below, kind_and_trees_row}
 
 -- ---- one part and those behind it
 
 -- The kind that is kept with a node's trees is the node's.
-grown_kind : (rows : List NodeRow) (n : ℕ) → (grown rows n).0 ≡ kind_of rows n
-unfolding grown row_at Rattle.rw_base.specs.Rows.value
-grown_kind rows n = ap (λ m. (get_or (folded no_trees (λ n r f. (r.kind, planted f r.parts)) [] rows) m no_trees).0) (omega arith) ∙ kinds [] rows n
+kept_kind : (rows : List NodeRow) (n : ℕ) → (kind_and_trees rows n).0 ≡ kind_of rows n
+unfolding kind_and_trees row_at Rattle.rw_base.specs.Rows.value
+kept_kind rows n = ap (λ m. (get_or (folded no_trees (λ n r f. (r.kind, trees_by f r.parts)) [] rows) m no_trees).0) (omega arith) ∙ kinds [] rows n
   where
-    kinds : (vs : List Grown) (rows : List NodeRow) (n : ℕ) → (get_or (folded no_trees (λ n r f. (r.kind, planted f r.parts)) vs rows) (length vs + n) no_trees).0 ≡ (get_or rows n no_row).kind
-    kinds vs [] n = ap (λ (x : Grown). x.0) (get_or_past vs (length vs + n) no_trees (omega arith))
+    kinds : (vs : List KindAndTrees) (rows : List NodeRow) (n : ℕ) → (get_or (folded no_trees (λ n r f. (r.kind, trees_by f r.parts)) vs rows) (length vs + n) no_trees).0 ≡ (get_or rows n no_row).kind
+    kinds vs [] n = ap (λ (x : KindAndTrees). x.0) (get_or_past vs (length vs + n) no_trees (omega arith))
     kinds vs (r ∷ rows) zero =
-        let x : Grown = (r.kind, planted (λ m. get_or vs m no_trees) r.parts) in
-        let more = folded_front no_trees (λ n r f. (r.kind, planted f r.parts)) (vs ++ x ∷ []) rows in
-        ap (λ (g : List Grown). (get_or g (length vs + 0) no_trees).0) (more.1 ∙ append_assoc vs (x ∷ []) more.0) ∙ ap (λ (y : Grown). y.0) (get_or_at vs x more.0 no_trees (length vs + 0) (omega arith))
+        let x : KindAndTrees = (r.kind, trees_by (λ m. get_or vs m no_trees) r.parts) in
+        let more = folded_front no_trees (λ n r f. (r.kind, trees_by f r.parts)) (vs ++ x ∷ []) rows in
+        ap (λ (g : List KindAndTrees). (get_or g (length vs + 0) no_trees).0) (more.1 ∙ append_assoc vs (x ∷ []) more.0) ∙ ap (λ (y : KindAndTrees). y.0) (get_or_at vs x more.0 no_trees (length vs + 0) (omega arith))
     kinds vs (r ∷ rows) (suc n) =
-        let x : Grown = (r.kind, planted (λ m. get_or vs m no_trees) r.parts) in
+        let x : KindAndTrees = (r.kind, trees_by (λ m. get_or vs m no_trees) r.parts) in
         let same : length vs + suc n ≡ length (vs ++ x ∷ []) + n = omega (arith, length-append vs (x ∷ [])) in
-        ap (λ m. (get_or (folded no_trees (λ n r f. (r.kind, planted f r.parts)) (vs ++ x ∷ []) rows) m no_trees).0) same ∙ kinds (vs ++ x ∷ []) rows n
+        ap (λ m. (get_or (folded no_trees (λ n r f. (r.kind, trees_by f r.parts)) (vs ++ x ∷ []) rows) m no_trees).0) same ∙ kinds (vs ++ x ∷ []) rows n
 
 pub forest_nil : (rows : List NodeRow) → forest_of rows [] ≡ none
 unfolding forest_of
@@ -41,7 +42,7 @@ forest_leaf rows i ps = refl
 
 pub forest_node : (rows : List NodeRow) (m : NodeId) (ps : List Part) → forest_of rows (part.Node m ∷ ps) ≡ node m.0 (kind_of rows m.0) (kids_of rows m.0) (forest_of rows ps)
 unfolding forest_of
-forest_node rows m ps = ap (λ k. node m.0 k (kids_of rows m.0) (forest_of rows ps)) (grown_kind rows m.0)
+forest_node rows m ps = ap (λ k. node m.0 k (kids_of rows m.0) (forest_of rows ps)) (kept_kind rows m.0)
 
 -- ---- from the k-th part on
 
@@ -86,7 +87,7 @@ row_get rows n lt = slice_get_read rows (length rows) n (get_or rows n no_row) r
 
 -- A node's trees are those of its parts.
 pub kids_at : (t : Arena) → IsTree t → (n : ℕ) → n < length t.nodes → kids_of t.nodes n ≡ forest_of t.nodes (parts_of t.nodes n)
-kids_at t tree n lt = ap (λ (x : Grown). x.1) (grown_row t.nodes n (row_at t.nodes n) (row_get t.nodes n lt) (nodes_below (length t.leaves) n (parts_of t.nodes n) (tree.below n lt)))
+kids_at t tree n lt = ap (λ (x : KindAndTrees). x.1) (kind_and_trees_row t.nodes n (row_at t.nodes n) (row_get t.nodes n lt) (nodes_below (length t.leaves) n (parts_of t.nodes n) (tree.below n lt)))
 
 -- what holds of each node where it holds of all nodes before it
 pub by_nodes : (P : ℕ → Type 0) → ((n : ℕ) → ((m : ℕ) → m < n → P m) → P n) → (n : ℕ) → P n

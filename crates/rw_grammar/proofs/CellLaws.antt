@@ -8,7 +8,8 @@ use Rattle.std.proofs.lemmas.List.{get_or_past}
 use Rattle.std.proofs.lemmas.Option.{slice_get-get_or, slice_get_past, unwrap_or-slice_get}
 use Rattle.std.proofs.Math.ListN.{get_or-append}
 use Rattle.std.proofs.Math.Seq.{get_or-append_seam}
-use Rattle.rw_base.specs.Rows.{value, value_at, folded}
+use Rattle.rw_base.specs.Rows.{value, folded}
+use Rattle.rw_base.specs.RowLaws.{value_at}
 use Rattle.rw_grammar.specs.declared.cells.Cell.{Cell}
 use Rattle.rw_grammar.specs.declared.cells.Cell.TheVariants as cell
 use Rattle.rw_grammar.specs.Parts.{Parts, end, one, rule, choice, opt, many, IsAt, here, past, rule_of, no_rule}

@@ -6,10 +6,11 @@ use Rattle.std.proofs.lemmas.List.{get_or_at}
 use Rattle.rw_base.specs.declared.tree.Part.{Part}
 use Rattle.rw_base.specs.declared.tree.Part.TheVariants as part
 use Rattle.rw_base.specs.declared.tree.NodeRow.{NodeRow}
-use Rattle.rw_base.specs.Trees.{none, leaf, node, Forest, size, width}
-use Rattle.rw_base.specs.Rows.{value, value_at, folded}
+use Rattle.rw_base.specs.Trees.{none, leaf, node, Forest, size, width, trees_in}
+use Rattle.rw_base.specs.Rows.{value, folded}
+use Rattle.rw_base.specs.RowLaws.{value_at}
 use Rattle.rw_base.specs.Laid.{parts_from, rows_from}
-use Rattle.rw_base.specs.LaidLaws.{trees_in, row_from, length-rows, length-parts, rows_leaf, rows_node}
+use Rattle.rw_base.specs.LaidLaws.{row_from, length-rows, length-parts, rows_leaf, rows_node}
 use Rattle.rw_grammar.specs.Depth.{worth, highest_of, first_above, height_by, all_heights}
 use Rattle.rw_grammar.specs.declared.depth.TheConstants.{DEPTH_LIMIT}
 use Rattle.rw_grammar.specs.Results.{around, too_deep, IsFirstOf}

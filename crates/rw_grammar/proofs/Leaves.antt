@@ -9,10 +9,9 @@ use Rattle.rw_base.specs.declared.tree.Part.{Part}
 use Rattle.rw_base.specs.declared.tree.Part.TheVariants as part
 use Rattle.rw_base.specs.declared.tree.NodeRow.{NodeRow}
 use Rattle.rw_base.specs.Arena.{leaf_at, no_leaf}
-use Rattle.rw_base.specs.Trees.{none, leaf, node, Forest, beside}
+use Rattle.rw_base.specs.Trees.{none, leaf, node, Forest, beside, numbers}
 use Rattle.rw_base.specs.Laid.{parts_from, rows_from}
 use Rattle.rw_base.specs.LaidLaws.{length-parts, trees_beside}
-use Rattle.rw_base.specs.LaidTrees.{numbers}
 use Rattle.rw_grammar.specs.declared.machine.Task.{Task}
 use Rattle.rw_grammar.specs.declared.machine.Task.TheVariants as task
 use Rattle.rw_grammar.specs.declared.machine.Moved.{Moved}

@@ -3,9 +3,10 @@ use Rattle.std.proofs.Common.{◌≡◌, ℕ, ◌+◌, ◌-◌, ◌<◌, ◌^◌
 use Rattle.rw_base.specs.declared.tree.Leaf.{Leaf}
 use Rattle.rw_base.specs.declared.tree.NodeRow.{NodeRow}
 use Rattle.rw_base.specs.Arena.{Arena, IsTree}
-use Rattle.rw_base.specs.Trees.{none, leaf, node, Forest, beside, leaves_in, size}
+use Rattle.rw_base.specs.Trees.{none, leaf, node, Forest, beside, leaves_in, size, numbers}
 use Rattle.rw_base.specs.LaidLaws.{leaves_beside, length-rows}
-use Rattle.rw_base.specs.LaidTrees.{numbers, laid, laid_rows, laid_is_tree}
+use Rattle.rw_base.specs.Laid.{laid, laid_rows}
+use Rattle.rw_base.specs.LaidTrees.{laid_is_tree}
 use Rattle.rw_grammar.specs.Parts.{Parts, rule_of}
 use Rattle.rw_grammar.specs.Derivation.{wrapped, Derives, by-end, by-one, by-rule, by-choice, by-empty, by-opt, by-no-opt, by-more, by-no-more}
 use Rattle.rw_grammar.specs.Results.{class_in, AreTreeLeaves, AreRowsOf}
@@ -46,7 +47,7 @@ module _ (rules : List Parts) (start : ℕ) (leaves : List Leaf) (rows : List No
   count = ap length r.are ∙ (length-rows 0 0 (node tt r.kind r.kids none) ∙ omega arith)
 
   pub made_is : (root : ℕ) → root ≡ length rows - 1 → let t : Arena = record { leaves = leaves; nodes = rows; root = root } in t ≡ laid leaves r.kind r.kids
-  made_is root e = the_same (laid_rows leaves r.kind r.kids) (size r.kids) r.are (omega (arith, e, count))
+  made_is root e = the_same (laid_rows r.kind r.kids) (size r.kids) r.are (omega (arith, e, count))
     where
       the_same : (xs : List NodeRow) (n : ℕ) → rows ≡ xs → root ≡ n → let t : Arena = record { leaves = leaves; nodes = rows; root = root } in let u : Arena = record { leaves = leaves; nodes = xs; root = n } in t ≡ u
       the_same xs n p q = cc

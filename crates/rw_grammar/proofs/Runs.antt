@@ -6,9 +6,9 @@ use Rattle.std.proofs.lemmas.Bool.{false≢true, cases_order}
 use Rattle.rw_base.specs.declared.tree.Part.{Part}
 use Rattle.rw_base.specs.declared.tree.Part.TheVariants as part
 use Rattle.rw_base.specs.declared.tree.NodeRow.{NodeRow}
-use Rattle.rw_base.specs.Trees.{none, leaf, node, Forest, beside, width, size}
+use Rattle.rw_base.specs.Trees.{none, leaf, node, Forest, beside, width, size, trees_in}
 use Rattle.rw_base.specs.Laid.{parts_from, rows_from}
-use Rattle.rw_base.specs.LaidLaws.{beside_none, beside_assoc, width_beside, trees_in, leaf_rows, leaf_parts, close_rows, close_parts, front_parts, back_parts, length-parts}
+use Rattle.rw_base.specs.LaidLaws.{beside_none, beside_assoc, width_beside, leaf_rows, leaf_parts, close_rows, close_parts, front_parts, back_parts, length-parts}
 use Rattle.rw_grammar.specs.declared.machine.Task.{Task}
 use Rattle.rw_grammar.specs.declared.machine.Task.TheVariants as task
 use Rattle.rw_grammar.specs.declared.machine.Moved.TheVariants as moved

@@ -5,10 +5,8 @@ use Rattle.std.specs.Option.{option_map}
 use Rattle.rw_base.specs.declared.tree.Leaf.{Leaf}
 use Rattle.rw_base.specs.declared.tree.NodeRow.{NodeRow}
 use Rattle.rw_base.specs.Arena.{Arena, Tile, leaf_at, end_from}
-use Rattle.rw_base.specs.Trees.{none, leaf, node, Forest, width}
-use Rattle.rw_base.specs.LaidLaws.{trees_in}
-use Rattle.rw_base.specs.Laid.{rows_from}
-use Rattle.rw_base.specs.LaidTrees.{numbers, laid, laid_rows}
+use Rattle.rw_base.specs.Trees.{none, leaf, node, Forest, width, trees_in, numbers}
+use Rattle.rw_base.specs.Laid.{rows_from, laid, laid_rows}
 use Rattle.rw_grammar.specs.declared.depth.TheConstants.{DEPTH_LIMIT}
 use Rattle.rw_grammar.specs.Parts.{Parts, rule_of}
 use Rattle.rw_grammar.specs.Derivation.{DerivesTree}
@@ -51,7 +49,7 @@ pub record AreRowsOf (rules : List Parts) (start : ℕ) (leaves : List Leaf) (ro
   pub kind : ℕ
   pub kids : Forest
   pub derived : IsTreeOf rules start leaves kind kids
-  pub are : rows ≡ laid_rows leaves kind kids
+  pub are : rows ≡ laid_rows kind kids
 
 -- ---- depth
 
