@@ -7,8 +7,18 @@ use std::test::Fail;
 
 const NAMES: [&str; 3] = ["a.properties", "b/c.properties", "d.properties"];
 
+// Files of other kinds and hidden ones. None of them is read: the numbers of the calls don't count them.
+const OTHERS: [&str; 6] = [
+    "a.txt",
+    "b/c.yml",
+    "b/D.java",
+    "noending",
+    ".u.properties",
+    ".git/v.properties",
+];
+
 // How many calls of the store it takes to put those files there.
-const BEFORE: u32 = 6;
+const BEFORE: u32 = 18;
 
 fn put(alloc: Global, store: &mut MemoryStore, name: &str) -> Result<(), Fail> {
     let Some(path) = PathText::new(alloc, name)? else {
@@ -20,17 +30,27 @@ fn put(alloc: Global, store: &mut MemoryStore, name: &str) -> Result<(), Fail> {
     Ok(())
 }
 
-// The store with three files that have the old key, whose call of this number from then on fails.
+// The store with those files, which have the old key, whose call of this number from then on fails.
 fn store_failing_at(alloc: Global, call: u32) -> Result<MemoryStore, Fail> {
     let fail = vec![in alloc; call.saturating_add(BEFORE)]?;
     let mut store = MemoryStore::new(alloc, Vec::new(alloc), fail, 0)?;
     for name in NAMES {
         put(alloc, &mut store, name)?;
     }
+    for name in OTHERS {
+        put(alloc, &mut store, name)?;
+    }
     Ok(store)
 }
 
-// What a run over that store answers, and how many of the files, from the first on, have the new key then.
+fn has(alloc: Global, store: &mut MemoryStore, name: &str, bytes: &[u8]) -> Result<bool, Fail> {
+    match store.read(alloc, name, u32::MAX)? {
+        Some(found) => Ok(found.as_slice() == bytes),
+        None => Ok(false),
+    }
+}
+
+// What a run over that store answers, and how many of the properties files, from the first on, have the new key then.
 fn run_failing_at(alloc: Global, call: u32) -> Result<(u8, usize), Fail> {
     let mut words = Vec::new(alloc);
     for word in [
@@ -44,12 +64,17 @@ fn run_failing_at(alloc: Global, call: u32) -> Result<(u8, usize), Fail> {
     let mut store = store_failing_at(alloc, call)?;
     let mut out = MemorySink::with_room(alloc, 0)?;
     let status = rewrite(alloc, &words, &mut store, &mut out, &OpenGate);
+    for name in OTHERS {
+        if !has(alloc, &mut store, name, b"old=1")? {
+            return Err(Fail::new("a file of another kind is changed"));
+        }
+    }
     let mut renamed = 0;
     for name in NAMES {
-        match store.read(alloc, name, u32::MAX)? {
-            Some(bytes) if bytes.as_slice() == b"new=1".as_slice() => renamed += 1,
-            _ => break,
+        if !has(alloc, &mut store, name, b"new=1")? {
+            break;
         }
+        renamed += 1;
     }
     Ok((status, renamed))
 }
