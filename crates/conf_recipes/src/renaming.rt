@@ -30,7 +30,13 @@ fn push_key(out: &mut Vec<u8>, bytes: &[u8], from: usize, to: usize, spelled: &[
 }
 
 // The bytes of a file whose first entry with the key stands here, with each such key written anew.
-fn write_keys(alloc: Global, bytes: &[u8], first: KeyPlace, key: &[u8], spelled: &[u8]) -> Mem<Vec<u8>>
+fn write_keys(
+    alloc: Global,
+    bytes: &[u8],
+    first: KeyPlace,
+    key: &[u8],
+    spelled: &[u8],
+) -> Mem<Vec<u8>>
     requires { IsKeyPlace key.now bytes.now 0 first }
     ensures { IfOk result (λ text. text.items ≡ with_key key.now spelled.now bytes.now) }
 {

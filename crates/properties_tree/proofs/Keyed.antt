@@ -1,7 +1,7 @@
 -- Keys written anew, line by line.
-use Rattle.std.proofs.Common.{◌≡◌, ℕ, Bool, inl, inr, ◌+◌, ◌-◌, ◌<◌, ◌≤◌, true, false, List, [], ◌∷◌, ◌++◌, length, get_or, take, drop, refl, sym, ◌∙◌, ap, subst, arith, length-append, length-drop, append_assoc, append-nil}
-use Rattle.std.specs.Prelude.{slice_range, None, IsTrue, ◌↔◌, ◌==◌}
-use Rattle.std.proofs.lemmas.Bool.{cases_Bool, false≢true, eqb-true}
+use Rattle.std.proofs.Common.{◌≡◌, ℕ, Bool, inl, inr, ◌+◌, ◌-◌, ◌≤◌, true, false, List, [], ◌∷◌, ◌++◌, length, get_or, take, drop, refl, sym, ◌∙◌, ap, subst, arith, length-append, length-drop, append_assoc, append-nil}
+use Rattle.std.specs.Prelude.{slice_range, None, IsTrue, ◌↔◌}
+use Rattle.std.proofs.lemmas.Bool.{cases_Bool, false≢true}
 use Rattle.std.proofs.lemmas.Slice.Eq.{bytes_eq-Decides}
 use Rattle.std.specs.Str.{bytes_eq}
 use Rattle.std.proofs.lemmas.List.{drop-drop, drop_all, length-take-le, take_at, take_all, take_rest}
@@ -10,14 +10,14 @@ use Rattle.rw_base.specs.NaturalLines.{whole_line}
 use Rattle.properties_tree.specs.Lines.{leading_blanks, behind_blanks}
 use Rattle.properties_tree.specs.Entries.{LogicalLine, passed, entry, bytes_of, join_lines, Entry, entry_of, Properties, entries_of, properties_of, no_entry}
 use Rattle.properties_tree.specs.Decoding.{key_text, entry_at}
-use Rattle.properties_tree.specs.Sizes.{begins_no_entry, ending_length, entries_from, whole_size, BeginsPassed, BeginsEntry}
+use Rattle.properties_tree.specs.Sizes.{ending_length, entries_from, whole_size, BeginsPassed, BeginsEntry}
 use Rattle.properties_tree.specs.Laws.{whole_entry, whole_of}
 use Rattle.properties_tree.specs.Keys.{key_or, all_with, with_key, IsKeyPlace, IsNextKey}
 use Rattle.properties_tree.specs.Starts.{IsKeyStart, IsKept, BeginsKey}
 use Rattle.properties_tree.specs.declared.starts.KeyStart.{KeyStart}
 use Rattle.properties_tree.specs.declared.keys.KeyPlace.{KeyPlace}
 use Rattle.properties_tree.proofs.Goes.{entries-none}
-use Rattle.properties_tree.specs.Cutting.{key_size, separator_size, line_size}
+use Rattle.properties_tree.specs.Cutting.{separator_size, line_size}
 use Rattle.properties_tree.proofs.First.{entry_found}
 use Rattle.properties_tree.proofs.EntryAt.{line-le, line_parts, size-le}
 use Rattle.properties_tree.proofs.Whole.{whole-entries_from, part_at}

@@ -1,5 +1,5 @@
 -- Lines of a properties file: which begin an entry, and which go on in the next one.
-use Rattle.std.specs.Prelude.{ℕ, ◌+◌, ◌==◌, ◌%◌, Bool, true, false, List, [], ◌∷◌, if◌then◌else◌}
+use Rattle.std.specs.Prelude.{ℕ, ◌+◌, ◌==◌, ◌%◌, Bool, true, List, [], ◌∷◌, if◌then◌else◌}
 use Rattle.properties_tree.specs.Characters.{is_blank, is_comment_mark, backslash}
 use Rattle.rw_base.specs.NaturalLines.{Line}
 
