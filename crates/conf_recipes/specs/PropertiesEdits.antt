@@ -1,5 +1,5 @@
 -- The edits of recipes in properties files.
-use Rattle.std.specs.Prelude.{◌≡◌, ℕ, ◌+◌, ◌≤◌, List, [], ◌∷◌, length, if◌then◌else◌}
+use Rattle.std.specs.Prelude.{◌≡◌, ℕ, ◌+◌, ◌≤◌, List, [], ◌∷◌, length, Option, unwrap_or, if◌then◌else◌}
 use Rattle.std.specs.Str.{bytes_eq}
 use Rattle.rw_base.specs.NewText.{new_text}
 use Rattle.rw_base.specs.declared.edit.Edit.{Edit}
@@ -36,4 +36,9 @@ abbrev pub EditsWriteKeys : Type 0
 EditsWriteKeys =
     (bytes : List ℕ) (options : PropertiesChangePropertyKey)
     → length bytes ≤ MOST_BYTES
-    → new_text (tree_of bytes) bytes (edits_of bytes options) ≡ with_key options.old_property_key (spelled_key options.new_property_key) bytes
+    → new_text (tree_of bytes) bytes (edits_of bytes options)
+    ≡ with_key options.old_property_key (spelled_key options.new_property_key) bytes
+
+-- A new text, the old one where there is none, is the file's with the edits of ChangePropertyKey.
+abbrev pub IsRenamed : List ℕ → PropertiesChangePropertyKey → Option (List ℕ) → Type 0
+IsRenamed bytes options text = unwrap_or text bytes ≡ new_text (tree_of bytes) bytes (edits_of bytes options)

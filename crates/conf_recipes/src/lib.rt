@@ -1,4 +1,21 @@
-//! The recipes of configuration files: which edits they make in one file.
+//! The recipes of configuration files: which edits each makes in one file.
+//!
+//! `edits_in_properties` gives the edits of `org.openrewrite.properties.ChangePropertyKey` over a file's tree, for a
+//! plan of several recipes. `renamed_in_properties` gives the new text at once, from the bytes alone, for a plan of
+//! this recipe alone.
+//!
+//! ```text
+//! let edits = edits_in_properties(alloc, &tree, bytes, &options)?;
+//! let text = rearranged(alloc, &tree, bytes, &edits)?;
+//!
+//! let same_text = renamed_in_properties(alloc, bytes, &options)?;
+//! ```
+//!
+//! The promise. The edits are those of the definition (clause `edits` of `edits_in_properties`), and they fit the tree
+//! (`leaves`, `fit`). Both ways give one text (`renamed_in_properties`), and that text is the file with the keys that
+//! say the old key written as the new one is spelled, and every other byte as it was (the law `edits_write_keys`).
+//!
+//! What must be believed is `PropertiesEdits` in specs/, behind properties_tree's `Keys` and rw_base's `NewText`.
 #![tactic(auto)]
 
 mod properties;

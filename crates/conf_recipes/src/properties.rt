@@ -52,37 +52,3 @@ pub fn edits_in_properties(
     }
     Ok(edits)
 }
-
-#[cfg(test)]
-mod tests {
-    use super::*;
-    use crate::renamed_in_properties;
-    use properties_tree::read_properties;
-    use rw_base::{print, rearranged};
-    use std::test::Fail;
-
-    #[test]
-    fn each_entry_with_the_key_is_edited(rt: HostRuntime) -> Result<(), Fail> {
-        let bytes = b"a=1\n#a\n \\a : 2\nab=3\na\\\n b=4\n\\u0061";
-        let options = PropertiesChangePropertyKey {
-            old_property_key: Text::from_slice(rt.alloc(), b"a")?,
-            new_property_key: Text::from_slice(rt.alloc(), b"x=")?,
-        };
-        let Ok(tree) = read_properties(rt.alloc(), bytes) else {
-            return Err(Fail::new("refused"));
-        };
-        let mut same = Vec::new(rt.alloc());
-        print(&tree, bytes, &mut same)?;
-        assert_eq!(rt; same.as_slice(), bytes.as_slice());
-        let edits = edits_in_properties(rt.alloc(), &tree, bytes, &options)?;
-        assert_eq!(rt; edits.len(), 3);
-        let text = rearranged(rt.alloc(), &tree, bytes, &edits)?;
-        let want = b"x\\==1\n#a\n x\\= : 2\nab=3\na\\\n b=4\nx\\=".as_slice();
-        assert_eq!(rt; text.as_slice(), want);
-        let same = renamed_in_properties(rt.alloc(), bytes, &options)?;
-        assert_eq!(rt; same.as_ref().map(|text| text.as_slice()), Some(want));
-        let none = renamed_in_properties(rt.alloc(), b"b=a\n#a\n", &options)?;
-        assert!(rt; none.is_none());
-        Ok(())
-    }
-}

@@ -1,17 +1,16 @@
 // A renaming of keys in one pass over a file's bytes.
-ghost use Rattle.std.specs.Prelude.{◌≡◌, ◌≤◌, ◌++◌, length, slice_range, unwrap_or, IfOk, OnOk};
+ghost use Rattle.std.specs.Prelude.{◌≡◌, ◌≤◌, ◌++◌, length, slice_range, IfOk, OnOk};
 ghost use Rattle.std.specs.Option.{option_map};
-ghost use Rattle.rw_base.specs.NewText.{new_text};
 ghost use Rattle.properties_tree.specs.Keys.{IsKeyPlace, with_key};
-ghost use Rattle.properties_tree.specs.Layout.{tree_of};
-ghost use Rattle.conf_recipes.specs.PropertiesEdits.{edits_of, EditsWriteKeys};
+ghost use Rattle.conf_recipes.specs.PropertiesEdits.{EditsWriteKeys, IsRenamed};
 
 use properties_tree::{KeyPlace, PropertiesChangePropertyKey, next_with_key, spell_key};
 use rw_base::{MOST_BYTES, Mem};
 use std::alloc::Global;
 
 /// The new text of a properties file that isn't too large, with the edits of a renaming, is the file with the keys that
-/// say the old key written as the new one is spelled, and every other byte as it was: a law, whose function does nothing.
+/// say the old key written as the new one is spelled, and every other byte as it was: a law, whose function does
+/// nothing.
 pub fn edits_write_keys()
     ensures { EditsWriteKeys }
 {
@@ -31,7 +30,13 @@ fn push_key(out: &mut Vec<u8>, bytes: &[u8], from: usize, to: usize, spelled: &[
 }
 
 // The bytes of a file whose first entry with the key stands here, with each such key written anew.
-fn written(alloc: Global, bytes: &[u8], first: KeyPlace, key: &[u8], spelled: &[u8]) -> Mem<Vec<u8>>
+fn write_keys(
+    alloc: Global,
+    bytes: &[u8],
+    first: KeyPlace,
+    key: &[u8],
+    spelled: &[u8],
+) -> Mem<Vec<u8>>
     requires { IsKeyPlace key.now bytes.now 0 first }
     ensures { IfOk result (λ text. text.items ≡ with_key key.now spelled.now bytes.now) }
 {
@@ -48,14 +53,15 @@ fn written(alloc: Global, bytes: &[u8], first: KeyPlace, key: &[u8], spelled: &[
 }
 
 /// The new text of a properties file of at most `MOST_BYTES`, with the edits of
-/// `org.openrewrite.properties.ChangePropertyKey`, and `None` where no entry has the old key. It makes no tree and no edits.
+/// `org.openrewrite.properties.ChangePropertyKey`, and `None` where that is the old text, as where no entry has the old
+/// key. It makes no tree and no edits.
 pub fn renamed_in_properties(
     alloc: Global,
     bytes: &[u8],
     options: &PropertiesChangePropertyKey,
 ) -> Mem<Option<Vec<u8>>>
     requires { length bytes.now ≤ MOST_BYTES }
-    ensures { IfOk result (λ text. unwrap_or (option_map (λ v. v.items) text) bytes.now ≡ new_text (tree_of bytes.now) bytes.now (edits_of bytes.now options.now)) }
+    ensures { IfOk result (λ text. IsRenamed bytes.now options.now (option_map (λ v. v.items) text)) }
 {
     edits_write_keys();
     let key = options.old_property_key.as_slice();
@@ -63,5 +69,5 @@ pub fn renamed_in_properties(
         return Ok(None);
     };
     let spelled = spell_key(alloc, options.new_property_key.as_slice())?;
-    Ok(Some(written(alloc, bytes, first, key, &spelled)?))
+    Ok(Some(write_keys(alloc, bytes, first, key, &spelled)?))
 }

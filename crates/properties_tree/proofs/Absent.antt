@@ -7,7 +7,7 @@ use Rattle.std.proofs.Math.ListN.{get_or-append}
 use Rattle.std.proofs.lemmas.Slice.Eq.{bytes_eq-Decides}
 use Rattle.std.specs.Str.{bytes_eq}
 use Rattle.memchr.specs.Find.{OccursAt, Nowhere, FindsNeedle}
-use Rattle.properties_tree.specs.Characters.{has_backslash}
+use Rattle.properties_tree.specs.Plain.{has_backslash}
 use Rattle.properties_tree.specs.Entries.{Entry, properties_of, no_entry, bytes_of}
 use Rattle.properties_tree.specs.Decoding.{key_text}
 use Rattle.properties_tree.specs.Laws.{whole_entry, whole_of}

@@ -1,11 +1,15 @@
 -- What a text begins with, as the reader finds it.
 use Rattle.std.proofs.Common.{◌≡◌, ℕ, ◌+◌, ◌-◌, ◌<◌, ◌≤◌, true, false, List, [], ◌∷◌, ◌++◌, length, take, drop, refl, sym, ◌∙◌, ap, subst, arith, inl, inr, length-drop}
-use Rattle.std.proofs.lemmas.Bool.{cases_Bool, false≢true, or_parts}
+use Rattle.std.specs.Prelude.{◌==◌, IsTrue, slice_range}
+use Rattle.std.proofs.lemmas.Bool.{cases_Bool, false≢true, or_parts, eqb-true}
 use Rattle.std.proofs.lemmas.List.{take_rest, drop-drop, length-take-le}
 use Rattle.properties_tree.specs.Characters.{is_line_end, is_comment_mark}
+use Rattle.properties_tree.specs.Plain.{has_backslash}
 use Rattle.properties_tree.specs.Lines.{leading_blanks, behind_blanks, is_empty_or_comment}
 use Rattle.properties_tree.specs.Sizes.{text_length, ending_length, begins_no_entry, entries_from, with_entry, BeginsPassed, BeginsEntry}
 use Rattle.properties_tree.specs.Cutting.{pieces_in, key_front, separator_front, key_size, separator_size, line_size}
+use Rattle.properties_tree.specs.Starts.{IsKeyStart}
+use Rattle.properties_tree.specs.declared.starts.KeyStart.{KeyStart}
 use Rattle.properties_tree.proofs.Lengths.{behind_blanks_is, leading_is}
 use Rattle.properties_tree.proofs.FirstLine.{line_text, behind_text, ending_text, some_line}
 use Rattle.properties_tree.proofs.Plain.{passes}
@@ -46,38 +50,61 @@ module _ (s : List ℕ) (some : 0 < length s) where
         entries = rw whole (passes s (passed_over s ∙ (ap begins_no_entry (sym line) ∙ comment)));
       }
 
-  module _ (b k m v e : ℕ) (b_is : b ≡ length (leading_blanks s)) (b_in : b ≤ length s) where
-    abbrev pub line : List ℕ
-    line = take (length s - b) (drop b s)
+-- an entry's blanks and key, as the code finds them
+pub key_started : (s : List ℕ) (b k n : ℕ) → b ≡ length (leading_blanks s) → b ≤ length s → begins_no_entry (take (length s - b) (drop b s)) ≡ false
+    → k ≡ key_size (take (length s - b) (drop b s)) → k ≤ length (take (length s - b) (drop b s)) → has_backslash (take n (take (length s - b) (drop b s))) ≡ false
+    → IsKeyStart s (record { blanks = b; key = k; plain = (k == n) })
+key_started s b k n b_is b_in starts k_is k_in none =
+    let line : take (length s - b) (drop b s) ≡ drop b s = take_rest s b in
+    let long : length (take (length s - b) (drop b s)) ≡ length s - b = ap length line ∙ length-drop b s in
+    record {
+      blanks_is = b_is;
+      starts = ap begins_no_entry (sym line) ∙ starts;
+      key_is = k_is ∙ ap key_size line;
+      inside = omega arith;
+      plain = λ same. ap (λ m. has_backslash (take m (drop b s))) (eqb-true k n same) ∙ (ap (λ (t : List ℕ). has_backslash (take n t)) (sym line) ∙ none);
+    }
 
-    abbrev pub after_key : List ℕ
-    after_key = take (length line - k) (drop k line)
+-- ---- the parts of an entry whose start is found
 
+module _ (s : List ℕ) (z : KeyStart) (is : IsKeyStart s z) where
+  abbrev pub after_key : List ℕ
+  after_key = take (length s - (z.blanks + z.key)) (drop (z.blanks + z.key) s)
+
+  abbrev u : List ℕ
+  u = behind_blanks s
+
+  line_is : drop z.blanks s ≡ u
+  line_is = ap (λ n. drop n s) is.blanks_is ∙ sym (behind_blanks_is s)
+
+  starts_is : begins_no_entry u ≡ false
+  starts_is = ap begins_no_entry (sym line_is) ∙ is.starts
+
+  k_size : z.key ≡ key_size u
+  k_size = is.key_is ∙ ap key_size line_is
+
+  key_is : after_key ≡ behind_key u
+  key_is =
+      take_rest s (z.blanks + z.key)
+      ∙ (sym (drop-drop z.key z.blanks s) ∙ (ap (λ n. drop n (drop z.blanks s)) k_size ∙ ap (drop (key_size u)) line_is))
+
+  key_left : length after_key ≡ length s - (z.blanks + z.key)
+  key_left = ap length (take_rest s (z.blanks + z.key)) ∙ length-drop (z.blanks + z.key) s
+
+  module _ (m v e : ℕ) where
     abbrev pub after_separator : List ℕ
     after_separator = take (length after_key - m) (drop m after_key)
 
     abbrev pub after_value : List ℕ
     after_value = take (length after_separator - v) (drop v after_separator)
 
-    module _ (starts : begins_no_entry line ≡ false) (k_is : k ≡ key_size line) (k_in : k ≤ length line) (m_is : m ≡ separator_size after_key) (m_in : m ≤ length after_key)
+    module _ (m_is : m ≡ separator_size after_key) (m_in : m ≤ length after_key)
         (v_is : v ≡ line_size after_separator) (v_in : v ≤ length after_separator) (e_is : e ≡ ending_length after_value) (e_in : e ≤ length after_value) where
-      abbrev u : List ℕ
-      u = behind_blanks s
-
-      line_is : line ≡ u
-      line_is = take_rest s b ∙ (ap (λ n. drop n s) b_is ∙ sym (behind_blanks_is s))
-
-      key_is : after_key ≡ behind_key u
-      key_is = take_rest line k ∙ (ap (λ n. drop n line) k_is ∙ ap (λ x. drop (key_size x) x) line_is)
-
       separator_is : after_separator ≡ behind_separator u
       separator_is = take_rest after_key m ∙ (ap (λ n. drop n after_key) m_is ∙ ap (λ x. drop (separator_size x) x) key_is)
 
       value_is : after_value ≡ behind_entry s
       value_is = take_rest after_separator v ∙ (ap (λ n. drop n after_separator) v_is ∙ (ap (λ x. drop (line_size x) x) separator_is ∙ behind_line u))
-
-      k_size : k ≡ key_size u
-      k_size = k_is ∙ ap key_size line_is
 
       m_size : m ≡ separator_size (behind_key u)
       m_size = m_is ∙ ap separator_size key_is
@@ -88,26 +115,26 @@ module _ (s : List ℕ) (some : 0 < length s) where
       e_size : e ≡ ending_length (behind_entry s)
       e_size = e_is ∙ ap ending_length value_is
 
-      line_total : k + m + v ≡ line_size u
+      line_total : z.key + m + v ≡ line_size u
       line_total = let all = sizes u in omega (arith, k_size, m_size, v_size)
 
-      fits : b + k + m + v + e ≤ length s
+      fits : z.blanks + z.key + m + v + e ≤ length s
       fits =
-          let l1 : length line ≡ length s - b = ap length (take_rest s b) ∙ length-drop b s in
-          let l2 : length after_key ≡ length line - k = ap length (take_rest line k) ∙ length-drop k line in
+          let l1 = is.inside in
+          let l2 = key_left in
           let l3 : length after_separator ≡ length after_key - m = ap length (take_rest after_key m) ∙ length-drop m after_key in
           let l4 : length after_value ≡ length after_separator - v = ap length (take_rest after_separator v) ∙ length-drop v after_separator in
           omega arith
 
-      rest_is : drop (ending_length (behind_entry s)) (behind_entry s) ≡ drop (b + k + m + v + e) s
+      rest_is : drop (ending_length (behind_entry s)) (behind_entry s) ≡ drop (z.blanks + z.key + m + v + e) s
       rest_is =
-          let total : b + (line_size u + e) ≡ b + k + m + v + e = omega (arith, line_total) in
+          let total : z.blanks + (line_size u + e) ≡ z.blanks + z.key + m + v + e = omega (arith, line_total) in
           ap (λ n. drop n (behind_entry s)) (sym e_size)
           ∙ (drop-drop e (line_size u) u
-          ∙ (ap (drop (line_size u + e)) (behind_blanks_is s ∙ ap (λ n. drop n s) (sym b_is))
-          ∙ (drop-drop (line_size u + e) b s ∙ ap (λ n. drop n s) total)))
+          ∙ (ap (drop (line_size u + e)) (sym line_is)
+          ∙ (drop-drop (line_size u + e) z.blanks s ∙ ap (λ n. drop n s) total)))
 
-      pub entry_found : BeginsEntry s (record { blanks = b; key = k; separator = m; value = v; ending = e })
+      pub entry_found : BeginsEntry s (record { blanks = z.blanks; key = z.key; separator = m; value = v; ending = e })
       entry_found = record {
         key = key_front (pieces_in u);
         separator = separator_front false (pieces_in (behind_key u));
@@ -118,11 +145,17 @@ module _ (s : List ℕ) (some : 0 < length s) where
         value_size = sym v_size;
         ending_size = let short : ending_length (behind_entry s) ≤ length (behind_entry s) = subst (λ x. ending_length x ≤ length x) value_is (subst (λ n. n ≤ length after_value) e_is e_in) in
             length-take-le (ending_length (behind_entry s)) (behind_entry s) short ∙ sym e_size;
-        some = let long = some_line_size u (ap begins_no_entry (sym line_is) ∙ starts) in omega (arith, line_total);
+        some = let long = some_line_size u starts_is in omega (arith, line_total);
         inside = fits;
         entries = λ before.
-            let prefix : leading_blanks s ≡ take b s = leading_is s ∙ ap (λ n. take n s) (sym b_is) in
-            entry_begins s (passed_over s ∙ (ap begins_no_entry (sym line_is) ∙ starts)) before
+            let prefix : leading_blanks s ≡ take z.blanks s = leading_is s ∙ ap (λ n. take n s) (sym is.blanks_is) in
+            entry_begins s (passed_over s ∙ starts_is) before
             ∙ (ap (λ (p : List ℕ). with_entry (cut_entry u (before ++ p) (ending_text (behind_entry s))) (entries_from [] (drop (ending_length (behind_entry s)) (behind_entry s)))) prefix
-            ∙ ap (λ (t : List ℕ). with_entry (cut_entry u (before ++ take b s) (ending_text (behind_entry s))) (entries_from [] t)) rest_is);
+            ∙ ap (λ (t : List ℕ). with_entry (cut_entry u (before ++ take z.blanks s) (ending_text (behind_entry s))) (entries_from [] t)) rest_is);
       }
+
+  -- the bytes of the key, where it is known to have no backslash
+  pub no_slash_in : (from to : ℕ) → from ≡ z.blanks → to ≡ z.blanks + z.key → IsTrue z.plain → has_backslash (slice_range s from to) ≡ false
+  no_slash_in from to from_is to_is plain =
+      let long : to - from ≡ z.key = omega arith in
+      ap (λ n. has_backslash (take n (drop from s))) long ∙ (ap (λ n. has_backslash (take z.key (drop n s))) from_is ∙ is.plain plain)

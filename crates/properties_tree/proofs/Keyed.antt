@@ -1,22 +1,23 @@
 -- Keys written anew, line by line.
-use Rattle.std.proofs.Common.{◌≡◌, ℕ, Bool, inl, inr, ◌+◌, ◌-◌, ◌<◌, ◌≤◌, true, false, List, [], ◌∷◌, ◌++◌, length, get_or, take, drop, refl, sym, ◌∙◌, ap, subst, arith, length-append, length-drop, append_assoc, append-nil}
-use Rattle.std.specs.Prelude.{slice_range, None, IsTrue, ◌↔◌, ◌==◌}
-use Rattle.std.proofs.lemmas.Bool.{cases_Bool, false≢true, eqb-true}
+use Rattle.std.proofs.Common.{◌≡◌, ℕ, Bool, inl, inr, ◌+◌, ◌-◌, ◌≤◌, true, false, List, [], ◌∷◌, ◌++◌, length, get_or, take, drop, refl, sym, ◌∙◌, ap, subst, arith, length-append, length-drop, append_assoc, append-nil}
+use Rattle.std.specs.Prelude.{slice_range, None, IsTrue, ◌↔◌}
+use Rattle.std.proofs.lemmas.Bool.{cases_Bool, false≢true}
 use Rattle.std.proofs.lemmas.Slice.Eq.{bytes_eq-Decides}
 use Rattle.std.specs.Str.{bytes_eq}
 use Rattle.std.proofs.lemmas.List.{drop-drop, drop_all, length-take-le, take_at, take_all, take_rest}
 use Rattle.rw_base.specs.Joins.{joined_slices}
-use Rattle.properties_tree.specs.Characters.{has_backslash}
 use Rattle.rw_base.specs.NaturalLines.{whole_line}
 use Rattle.properties_tree.specs.Lines.{leading_blanks, behind_blanks}
 use Rattle.properties_tree.specs.Entries.{LogicalLine, passed, entry, bytes_of, join_lines, Entry, entry_of, Properties, entries_of, properties_of, no_entry}
 use Rattle.properties_tree.specs.Decoding.{key_text, entry_at}
-use Rattle.properties_tree.specs.Sizes.{begins_no_entry, ending_length, entries_from, whole_size, BeginsPassed, BeginsEntry}
+use Rattle.properties_tree.specs.Sizes.{ending_length, entries_from, whole_size, BeginsPassed, BeginsEntry}
 use Rattle.properties_tree.specs.Laws.{whole_entry, whole_of}
-use Rattle.properties_tree.specs.Keys.{key_or, all_with, with_key, IsKept, IsKeyPlace, IsNextKey, BeginsKey}
+use Rattle.properties_tree.specs.Keys.{key_or, all_with, with_key, IsKeyPlace, IsNextKey}
+use Rattle.properties_tree.specs.Starts.{IsKeyStart, IsKept, BeginsKey}
+use Rattle.properties_tree.specs.declared.starts.KeyStart.{KeyStart}
 use Rattle.properties_tree.specs.declared.keys.KeyPlace.{KeyPlace}
 use Rattle.properties_tree.proofs.Goes.{entries-none}
-use Rattle.properties_tree.specs.Cutting.{key_size, separator_size, line_size}
+use Rattle.properties_tree.specs.Cutting.{separator_size, line_size}
 use Rattle.properties_tree.proofs.First.{entry_found}
 use Rattle.properties_tree.proofs.EntryAt.{line-le, line_parts, size-le}
 use Rattle.properties_tree.proofs.Whole.{whole-entries_from, part_at}
@@ -154,45 +155,35 @@ module _ (text : List ℕ) (p : KeyPlace) (line : BeginsKey text p) where
         regrouped : (a x c d : List ℕ) → (a ++ (x ++ c)) ++ d ≡ a ++ (x ++ (c ++ d))
         regrouped a x c d = simp append_assoc
 
--- ---- an entry, as the code finds it
+-- ---- where the key of an entry stands, as the code finds it
 
-module _ (s : List ℕ) (some : 0 < length s) (b k v e : ℕ) (b_is : b ≡ length (leading_blanks s)) (b_in : b ≤ length s) where
-  abbrev u : List ℕ
-  u = take (length s - b) (drop b s)
+module _ (s : List ℕ) (z : KeyStart) (is : IsKeyStart s z) (v e : ℕ) where
+  abbrev behind_key : List ℕ
+  behind_key = take (length s - (z.blanks + z.key)) (drop (z.blanks + z.key) s)
 
-  abbrev after_key : List ℕ
-  after_key = take (length u - k) (drop k u)
+  abbrev behind_line : List ℕ
+  behind_line = take (length behind_key - v) (drop v behind_key)
 
-  abbrev after_value : List ℕ
-  after_value = take (length after_key - v) (drop v after_key)
-
-  pub start_found : begins_no_entry u ≡ false → k ≡ key_size u → k ≤ length u → v ≡ line_size after_key → v ≤ length after_key → e ≡ ending_length after_value → e ≤ length after_value
-      → BeginsKey s (record { from = b; to = b + k; next = b + k + v + e })
-  start_found starts k_is k_in v_is v_in e_is e_in =
-      let m = separator_size after_key in
-      let after_separator = take (length after_key - m) (drop m after_key) in
-      let l = line_size after_separator in
-      let m_in : m ≤ length after_key = size-le after_key in
-      let same : after_separator ≡ drop m after_key = take_rest after_key m in
-      let v_all : line_size after_key ≡ m + l = line_parts after_key ∙ ap (λ t. m + line_size t) (sym same) in
-      let l_in : l ≤ length after_separator = line-le after_separator in
-      let after_line : take (length after_separator - l) (drop l after_separator) ≡ after_value =
-      take_rest after_separator l ∙ (ap (drop l) same ∙ (drop-drop l m after_key ∙ (ap (λ n. drop n after_key) (sym v_all ∙ sym v_is) ∙ sym (take_rest after_key v)))) in
-      let z = entry_found s some b k m l e b_is b_in starts k_is k_in refl m_in refl l_in (e_is ∙ ap ending_length (sym after_line)) (subst (λ (t : List ℕ). e ≤ length t) (sym after_line) e_in) in
+  pub place_found : v ≡ line_size behind_key → v ≤ length behind_key → e ≡ ending_length behind_line → e ≤ length behind_line
+      → BeginsKey s (record { from = z.blanks; to = z.blanks + z.key; next = z.blanks + z.key + v + e })
+  place_found v_is v_in e_is e_in =
+      let m = separator_size behind_key in
+      let behind_separator = take (length behind_key - m) (drop m behind_key) in
+      let l = line_size behind_separator in
+      let m_in : m ≤ length behind_key = size-le behind_key in
+      let same : behind_separator ≡ drop m behind_key = take_rest behind_key m in
+      let v_all : line_size behind_key ≡ m + l = line_parts behind_key ∙ ap (λ t. m + line_size t) (sym same) in
+      let l_in : l ≤ length behind_separator = line-le behind_separator in
+      let after_line : take (length behind_separator - l) (drop l behind_separator) ≡ behind_line =
+      take_rest behind_separator l ∙ (ap (drop l) same ∙ (drop-drop l m behind_key ∙ (ap (λ n. drop n behind_key) (sym v_all ∙ sym v_is) ∙ sym (take_rest behind_key v)))) in
+      let found = entry_found s z is m l e refl m_in refl l_in (e_is ∙ ap ending_length (sym after_line)) (subst (λ (t : List ℕ). e ≤ length t) (sym after_line) e_in) in
       record {
-        sizes = record { blanks = b; key = k; separator = m; value = l; ending = e };
-        begins = z;
+        sizes = record { blanks = z.blanks; key = z.key; separator = m; value = l; ending = e };
+        begins = found;
         from_is = refl;
         to_is = refl;
         next_is = omega (arith, v_is, v_all);
       }
-
-  -- a key whose every character stands for itself
-  pub no_slash_found : (n : ℕ) → has_backslash (take n u) ≡ false → (k == n) ≡ true → has_backslash (slice_range s b (b + k)) ≡ false
-  no_slash_found n none same =
-      let is : k ≡ n = eqb-true k n same in
-      let long : b + k - b ≡ n = omega arith in
-      ap (λ m. has_backslash (take m (drop b s))) long ∙ (ap (λ (t : List ℕ). has_backslash (take n t)) (sym (take_rest s b)) ∙ none)
 
 -- ---- lines, one behind another
 

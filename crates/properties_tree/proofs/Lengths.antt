@@ -3,7 +3,8 @@ use Rattle.std.proofs.Common.{◌≡◌, ℕ, suc, ◌+◌, ◌<◌, ◌≤◌, 
 use Rattle.std.specs.Prelude.{◌==◌}
 use Rattle.std.proofs.lemmas.List.{at_drop_more, at_drop_all}
 use Rattle.std.proofs.lemmas.Bool.{or_parts, or_from, cases_Bool}
-use Rattle.properties_tree.specs.Characters.{is_line_end, is_blank, has_backslash}
+use Rattle.properties_tree.specs.Characters.{is_line_end, is_blank}
+use Rattle.properties_tree.specs.Plain.{has_backslash}
 use Rattle.properties_tree.specs.Lines.{leading_blanks, behind_blanks}
 use Rattle.properties_tree.specs.Sizes.{text_length}
 

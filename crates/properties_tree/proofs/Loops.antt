@@ -3,7 +3,8 @@ use Rattle.std.proofs.Common.{◌≡◌, ℕ, zero, suc, ◌+◌, ◌<◌, ◌�
 use Rattle.std.specs.Prelude.{◌==◌, ◌||◌}
 use Rattle.std.proofs.lemmas.Bool.{false≢true, eqb-true, or_parts, not-true}
 use Rattle.std.proofs.lemmas.List.{drop_more, drop_all, drop-drop, length-take-le}
-use Rattle.properties_tree.specs.Characters.{is_line_end, is_blank, is_separator, ends_key, backslash, has_backslash, is_plain, is_plain_in_key}
+use Rattle.properties_tree.specs.Characters.{is_line_end, is_blank, is_separator, ends_key, backslash}
+use Rattle.properties_tree.specs.Plain.{has_backslash, is_plain, is_plain_in_key}
 use Rattle.properties_tree.specs.Entries.{Piece, char, joint, bytes_of, characters_of, take_characters, key_length}
 use Rattle.properties_tree.specs.Cutting.{joins, joint_size, pieces_in, key_front, separator_front, separator_from, key_size, separator_size, line_size, ends_at, key_end, IsChar, IsPair, IsJoint}
 use Rattle.properties_tree.proofs.Lengths.{plain_more}

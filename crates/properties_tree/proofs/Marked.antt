@@ -2,7 +2,8 @@
 use Rattle.std.proofs.Common.{◌≡◌, ℕ, zero, suc, true, false, List, [], ◌∷◌, ◌++◌, get_or, drop, refl, sym, ◌∙◌, ap, inl, inr}
 use Rattle.std.specs.Prelude.{◌==◌}
 use Rattle.std.proofs.lemmas.Bool.{cases_Bool, false≢true, or_parts}
-use Rattle.properties_tree.specs.Characters.{backslash, has_backslash}
+use Rattle.properties_tree.specs.Characters.{backslash}
+use Rattle.properties_tree.specs.Plain.{has_backslash}
 use Rattle.rw_base.specs.NaturalLines.{Line, lines_of, whole_line}
 use Rattle.properties_tree.specs.Lines.{leading_blanks, behind_blanks, is_continued}
 use Rattle.properties_tree.specs.Entries.{LogicalLine, passed, entry, Piece, char, joint, bytes_of, characters_of, chars, without_last, key_length, separator_length, JoinedLine, join_lines, take_characters, drop_characters, Entry, entry_of, entries_of, properties_of, no_entry, logical_lines}

@@ -1,6 +1,5 @@
 -- The characters that mean something in a properties file, as `java.util.Properties` names them.
-use Rattle.std.specs.Prelude.{ℕ, Bool, not, ◌||◌, ◌==◌, List}
-use Rattle.std.specs.List.{list_any}
+use Rattle.std.specs.Prelude.{ℕ, Bool, ◌||◌, ◌==◌}
 
 -- LF or CR
 abbrev pub is_line_end : ℕ → Bool
@@ -25,14 +24,3 @@ ends_key b = is_separator b || is_blank b
 -- the backslash
 abbrev pub backslash : ℕ
 backslash = 92
-
--- whether a backslash stands in a text
-abbrev pub has_backslash : List ℕ → Bool
-has_backslash s = list_any (λ b. b == 92) s
-
--- a character of a logical line that stands for itself, and one of a key that doesn't end it
-abbrev pub is_plain : ℕ → Bool
-is_plain b = not (is_line_end b || b == backslash)
-
-abbrev pub is_plain_in_key : ℕ → Bool
-is_plain_in_key b = not (is_line_end b || b == backslash || ends_key b)

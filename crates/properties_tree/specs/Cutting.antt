@@ -1,5 +1,7 @@
--- The pieces of a logical line from its bytes, from left to right, and how many bytes the parts of an entry have.
-use Rattle.std.specs.Prelude.{◌≡◌, ℕ, zero, suc, ◌+◌, ◌<◌, ◌≤◌, ◌==◌, ◌&&◌, not, Bool, true, false, List, [], ◌∷◌, ◌++◌, length, take, drop, if◌then◌else◌}
+-- The pieces of a logical line from its bytes, from left to right, and how many bytes the parts of an entry have. No
+-- public clause stands on this.
+use Rattle.std.specs.Prelude.{◌≡◌, ℕ, zero, suc, ◌+◌, ◌<◌, ◌≤◌, ◌==◌, ◌&&◌, not, Bool, true, false, List, [], ◌∷◌, ◌++◌}
+use Rattle.std.specs.Prelude.{length, take, drop, if◌then◌else◌}
 use Rattle.properties_tree.specs.Characters.{is_line_end, is_blank, is_separator, backslash}
 use Rattle.properties_tree.specs.Lines.{leading_blanks}
 use Rattle.properties_tree.specs.Entries.{Piece, char, joint, bytes_of, characters_of, take_characters, key_length}

@@ -1,5 +1,6 @@
 -- What a key or a value says: escapes decoded.
-use Rattle.std.specs.Prelude.{ℕ, zero, suc, ◌+◌, ◌-◌, ◌*◌, ◌==◌, ◌&&◌, nat_le, Bool, List, [], ◌∷◌, ◌++◌, Option, Some, None, encode_utf8, slice_index_or, if◌then◌else◌}
+use Rattle.std.specs.Prelude.{ℕ, zero, suc, ◌+◌, ◌-◌, ◌*◌, ◌==◌, ◌&&◌, nat_le, Bool, List, [], ◌∷◌, ◌++◌, Option, Some}
+use Rattle.std.specs.Prelude.{None, encode_utf8, slice_index_or, if◌then◌else◌}
 use Rattle.properties_tree.specs.Characters.{backslash}
 use Rattle.properties_tree.specs.Entries.{Entry, properties_of, no_entry, characters_of}
 
@@ -23,7 +24,8 @@ with_hex_digit _ _ = None
 
 -- the number that the four hex digits at the front of a text name, where there are four
 abbrev pub four_hex : List ℕ → Option ℕ
-four_hex (a ∷ b ∷ c ∷ d ∷ rest) = with_hex_digit (with_hex_digit (with_hex_digit (hex_value a) (hex_value b)) (hex_value c)) (hex_value d)
+four_hex (a ∷ b ∷ c ∷ d ∷ rest) =
+    with_hex_digit (with_hex_digit (with_hex_digit (hex_value a) (hex_value b)) (hex_value c)) (hex_value d)
 four_hex _ = None
 
 -- what a character behind a backslash stands for: tab, LF, CR and form feed by `t n r f`, any other for itself
@@ -48,7 +50,10 @@ unicode_escape None = record { elements = byte 117 ∷ []; size = 1 }
 -- end stands for nothing.
 abbrev pub escape_of : List ℕ → Escape
 escape_of [] = record { elements = []; size = 0 }
-escape_of (b ∷ rest) = if b == 117 then unicode_escape (four_hex rest) else record { elements = byte (escaped_byte b) ∷ []; size = 1 }
+escape_of (b ∷ rest) =
+    if b == 117
+    then unicode_escape (four_hex rest)
+    else record { elements = byte (escaped_byte b) ∷ []; size = 1 }
 
 -- the elements of a text behind its first characters, which belong to an escape
 unfoldable pub elements_behind : ℕ → List ℕ → List Element

@@ -1,5 +1,6 @@
 -- Logical lines, and the entries that they are.
-use Rattle.std.specs.Prelude.{ℕ, zero, suc, ◌+◌, ◌-◌, ◌==◌, Bool, true, false, List, [], ◌∷◌, ◌++◌, length, take, drop, map, if◌then◌else◌}
+use Rattle.std.specs.Prelude.{ℕ, zero, suc, ◌+◌, ◌-◌, ◌==◌, Bool, true, false, List, [], ◌∷◌, ◌++◌, length, take, drop}
+use Rattle.std.specs.Prelude.{map, if◌then◌else◌}
 use Rattle.properties_tree.specs.Characters.{is_separator, ends_key, backslash}
 use Rattle.rw_base.specs.NaturalLines.{Line, whole_line, lines_of}
 use Rattle.properties_tree.specs.Lines.{leading_blanks, behind_blanks, is_passed_over, is_continued}
@@ -14,11 +15,17 @@ pub data LogicalLine : Type 0 where
 -- The lines in which what stands before goes on, none where it doesn't; and the logical lines behind them.
 unfoldable pub group_lines : Bool → List Line → List Line × List LogicalLine
 group_lines going [] = ([], [])
-group_lines true (line ∷ lines) = (line ∷ (group_lines (is_continued line.text) lines).0, (group_lines (is_continued line.text) lines).1)
+group_lines true (line ∷ lines) = (
+  line ∷ (group_lines (is_continued line.text) lines).0,
+  (group_lines (is_continued line.text) lines).1,
+)
 group_lines false (line ∷ lines) =
     if is_passed_over line
     then ([], passed line ∷ (group_lines false lines).1)
-    else ([], entry line (group_lines (is_continued line.text) lines).0 ∷ (group_lines (is_continued line.text) lines).1)
+    else (
+      [],
+      entry line (group_lines (is_continued line.text) lines).0 ∷ (group_lines (is_continued line.text) lines).1,
+    )
 
 abbrev pub logical_lines : List Line → List LogicalLine
 logical_lines lines = (group_lines false lines).1
@@ -64,7 +71,8 @@ join_lines text ending [] =
 join_lines text ending (next ∷ more) =
     record {
       pieces = chars (without_last text)
-          ++ joint (backslash ∷ ending ++ leading_blanks next.text) ∷ (join_lines (behind_blanks next.text) next.ending more).pieces;
+          ++ joint (backslash ∷ ending ++ leading_blanks next.text)
+          ∷ (join_lines (behind_blanks next.text) next.ending more).pieces;
       ending = (join_lines (behind_blanks next.text) next.ending more).ending;
     }
 
@@ -142,7 +150,8 @@ entries_of before [] = record { entries = []; rest = before }
 entries_of before (passed line ∷ lines) = entries_of (before ++ whole_line line) lines
 entries_of before (entry line more ∷ lines) =
     record {
-      entries = entry_of (before ++ leading_blanks line.text) (join_lines (behind_blanks line.text) line.ending more) ∷ (entries_of [] lines).entries;
+      entries = entry_of (before ++ leading_blanks line.text) (join_lines (behind_blanks line.text) line.ending more)
+          ∷ (entries_of [] lines).entries;
       rest = (entries_of [] lines).rest;
     }
 

@@ -16,7 +16,9 @@ leaf_from at prefix text class =
 
 -- the byte behind an entry that begins at a byte
 abbrev pub entry_end : ℕ → Entry → ℕ
-entry_end at e = at + length e.prefix + length (bytes_of e.key) + length (bytes_of e.separator) + length (bytes_of e.value) + length e.ending
+entry_end at e =
+    at + length e.prefix + length (bytes_of e.key) + length (bytes_of e.separator) + length (bytes_of e.value)
+    + length e.ending
 
 -- the four leaves of an entry
 abbrev pub entry_leaves : ℕ → Entry → List Leaf

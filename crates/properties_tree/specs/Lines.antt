@@ -1,5 +1,5 @@
 -- Lines of a properties file: which begin an entry, and which go on in the next one.
-use Rattle.std.specs.Prelude.{ℕ, ◌+◌, ◌==◌, ◌%◌, Bool, true, false, List, [], ◌∷◌, if◌then◌else◌}
+use Rattle.std.specs.Prelude.{ℕ, ◌+◌, ◌==◌, ◌%◌, Bool, true, List, [], ◌∷◌, if◌then◌else◌}
 use Rattle.properties_tree.specs.Characters.{is_blank, is_comment_mark, backslash}
 use Rattle.rw_base.specs.NaturalLines.{Line}
 
@@ -23,7 +23,8 @@ is_passed_over line = is_empty_or_comment (behind_blanks line.text)
 -- the number of backslashes at the end of a text that stands behind so many of them
 abbrev pub backslashes_behind : ℕ → List ℕ → ℕ
 backslashes_behind count [] = count
-backslashes_behind count (b ∷ rest) = if b == backslash then backslashes_behind (count + 1) rest else backslashes_behind 0 rest
+backslashes_behind count (b ∷ rest) =
+    if b == backslash then backslashes_behind (count + 1) rest else backslashes_behind 0 rest
 
 abbrev pub is_odd : ℕ → Bool
 is_odd n = n % 2 == 1

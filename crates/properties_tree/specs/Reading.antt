@@ -1,4 +1,4 @@
--- How far a file is read: which leaves and nodes stand, and which are still to come.
+-- How far a file is read: which leaves and nodes stand, and which are still to come. No public clause stands on this.
 use Rattle.std.specs.Prelude.{◌≡◌, ℕ, zero, suc, ◌+◌, ◌-◌, ◌*◌, ◌≤◌, List, [], ◌∷◌, ◌++◌, length, take, drop}
 use Rattle.rw_base.specs.declared.tree.Leaf.{Leaf}
 use Rattle.rw_base.specs.declared.tree.NodeRow.{NodeRow}
@@ -27,10 +27,15 @@ leaves_at from at z =
 abbrev pub left_of : List ℕ → ℕ → ℕ → Properties
 left_of bytes from at = entries_from (take (at - from) (drop from bytes)) (drop at bytes)
 
+-- the leaves of what a file says from a byte on
+abbrev pub leaves_of : ℕ → Properties → List Leaf
+leaves_of at p = leaves_from at p.entries p.rest
+
 -- These leaves and rows stand, all before this place is read, and the prefix so far began at a byte.
 pub record IsRead (bytes : List ℕ) (written : List Leaf) (rows : List NodeRow) (from at : ℕ) : Type 0 where
-  pub leaves : leaves_from 0 (properties_of bytes).entries (properties_of bytes).rest ≡ written ++ leaves_from from (left_of bytes from at).entries (left_of bytes from at).rest
-  pub nodes : entry_rows 0 (properties_of bytes).entries ≡ rows ++ entry_rows (length rows) (left_of bytes from at).entries
+  pub leaves : leaves_of 0 (properties_of bytes) ≡ written ++ leaves_of from (left_of bytes from at)
+  pub nodes :
+      entry_rows 0 (properties_of bytes).entries ≡ rows ++ entry_rows (length rows) (left_of bytes from at).entries
   pub count : length (properties_of bytes).entries ≡ length rows + length (left_of bytes from at).entries
   pub four : length written ≡ 4 * length rows
   pub few : length rows ≤ at

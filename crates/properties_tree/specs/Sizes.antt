@@ -1,11 +1,10 @@
--- How many bytes the parts of a line have, as the reader counts them.
-use Rattle.std.specs.Prelude.{◌≡◌, ℕ, suc, ◌+◌, ◌<◌, ◌≤◌, ◌==◌, ◌||◌, Bool, true, List, [], ◌∷◌, ◌++◌, length, take, drop, if◌then◌else◌}
+-- How many bytes the parts of a line have, as the reader counts them. No public clause stands on this.
+use Rattle.std.specs.Prelude.{◌≡◌, ℕ, suc, ◌+◌, ◌<◌, ◌≤◌, ◌==◌, ◌||◌, Bool, true, List, [], ◌∷◌, ◌++◌, length, take}
+use Rattle.std.specs.Prelude.{drop, if◌then◌else◌}
 use Rattle.properties_tree.specs.Characters.{is_line_end, is_comment_mark}
 use Rattle.rw_base.specs.NaturalLines.{begins_with_lf, lines_of}
 use Rattle.properties_tree.specs.Entries.{Entry, Piece, Properties, entries_of, logical_lines, bytes_of}
 use Rattle.properties_tree.specs.declared.reader.Sizes.{Sizes}
-use Rattle.properties_tree.specs.declared.reader.Found.{Found}
-use Rattle.properties_tree.specs.declared.reader.Found.TheVariants as found
 
 -- the bytes before the first line end
 abbrev pub text_length : List ℕ → ℕ
@@ -49,17 +48,15 @@ pub record BeginsEntry (text : List ℕ) (z : Sizes) : Type 0 where
   pub ending_size : length ending ≡ z.ending
   pub some : 0 < whole_size z
   pub inside : whole_size z ≤ length text
-  pub entries : (before : List ℕ) → entries_from before text
-      ≡ with_entry (record { prefix = before ++ take z.blanks text; key = key; separator = separator; value = value; ending = ending })
-      (entries_from [] (drop (whole_size z) text))
+  pub entries : (before : List ℕ) →
+      let prefix = before ++ take z.blanks text in
+      let first : Entry =
+      record { prefix = prefix; key = key; separator = separator; value = value; ending = ending } in
+      entries_from before text ≡ with_entry first (entries_from [] (drop (whole_size z) text))
 
 -- A text begins with a line of this size that is passed over.
 pub record BeginsPassed (text : List ℕ) (size : ℕ) : Type 0 where
   pub some : 0 < size
   pub inside : size ≤ length text
-  pub entries : (before : List ℕ) → entries_from before text ≡ entries_from (before ++ take size text) (drop size text)
-
--- what a text begins with
-abbrev pub Begins : List ℕ → Found → Type 0
-Begins text (found.Passed size) = BeginsPassed text size
-Begins text (found.Entry z) = BeginsEntry text z
+  pub entries :
+      (before : List ℕ) → entries_from before text ≡ entries_from (before ++ take size text) (drop size text)

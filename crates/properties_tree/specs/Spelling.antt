@@ -33,4 +33,5 @@ spelled_spaces (b ∷ rest) = if b == 32 then backslash ∷ b ∷ spelled_spaces
 -- A value: a first character `=` or `:` is marked, and so is each space of a leading run.
 unfoldable pub spelled_value : List ℕ → List ℕ
 spelled_value [] = []
-spelled_value (b ∷ rest) = if is_separator b then backslash ∷ b ∷ spelled_rest rest else spelled_spaces (b ∷ rest)
+spelled_value (b ∷ rest) =
+    if is_separator b then backslash ∷ b ∷ spelled_rest rest else spelled_spaces (b ∷ rest)

@@ -1,4 +1,4 @@
--- Decoding, one element at a time.
+-- Decoding, one element at a time. No public clause stands on this.
 use Rattle.std.specs.Prelude.{◌≡◌, ℕ, ◌+◌, ◌<◌, ◌≤◌, List, [], ◌∷◌, ◌++◌, Option, Some, None, length, drop}
 use Rattle.properties_tree.specs.Decoding.{Element, byte, code, elements_of, utf8_of}
 use Rattle.properties_tree.specs.declared.decoding.Step.{Step}
@@ -22,4 +22,6 @@ waiting_elements (Some u) = code u ∷ []
 
 -- One code unit more: what is written and what waits are the same text as before, whatever stands behind.
 abbrev pub AddsCode : List ℕ → Option ℕ → ℕ → List ℕ → Option ℕ → Type 0
-AddsCode before pending u after next = (es : List Element) → before ++ utf8_of (waiting_elements pending ++ code u ∷ es) ≡ after ++ utf8_of (waiting_elements next ++ es)
+AddsCode before pending u after next =
+    (es : List Element) →
+    before ++ utf8_of (waiting_elements pending ++ code u ∷ es) ≡ after ++ utf8_of (waiting_elements next ++ es)

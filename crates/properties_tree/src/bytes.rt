@@ -1,6 +1,7 @@
 // What single bytes mean.
 ghost use Rattle.std.specs.Prelude.{◌≡◌};
-ghost use Rattle.properties_tree.specs.Characters.{is_line_end, is_blank, is_comment_mark, is_separator, ends_key, is_plain, is_plain_in_key};
+ghost use Rattle.properties_tree.specs.Characters.{is_line_end, is_blank, is_comment_mark, is_separator, ends_key};
+ghost use Rattle.properties_tree.specs.Plain.{is_plain, is_plain_in_key};
 
 pub fn is_line_end(b: u8) -> bool
     ensures { result ≡ is_line_end b }

@@ -2,7 +2,8 @@
 ghost use Rattle.std.specs.Prelude.{◌≡◌, ◌++◌, ◌<◌, ◌≤◌, length, true, encode_utf8, IfSome, IfOk, OnOk, OnSome};
 ghost use Rattle.properties_tree.specs.Entries.{characters_of};
 ghost use Rattle.properties_tree.specs.Cutting.{pieces_in};
-ghost use Rattle.properties_tree.specs.Decoding.{hex_value, four_hex, escaped_byte, is_high, is_low, lone_bytes, pair_of, decode, utf8_of};
+ghost use Rattle.properties_tree.specs.Decoding.{hex_value, four_hex, escaped_byte, is_high, is_low, lone_bytes};
+ghost use Rattle.properties_tree.specs.Decoding.{pair_of, decode, utf8_of};
 ghost use Rattle.properties_tree.specs.Steps.{IsStep, AddsCode, waiting_elements};
 
 use crate::pieces::characters_of;

@@ -1,10 +1,11 @@
 // Entries looked up by their keys, without a tree.
-ghost use Rattle.std.specs.Prelude.{◌≡◌, ◌<◌, ◌≤◌, ℕ, List, false, length, IfOk};
-ghost use Rattle.properties_tree.specs.Decoding.{key_text, entry_at};
-ghost use Rattle.properties_tree.specs.Keys.{with_key, IsNextKey, IsStart, IsSeen};
+ghost use Rattle.std.specs.Prelude.{◌≡◌, ◌+◌, ◌<◌, ◌≤◌, ℕ, List, false, length, IfOk};
+ghost use Rattle.properties_tree.specs.Keys.{with_key, IsNextKey};
+ghost use Rattle.properties_tree.specs.Starts.{IsKeyStart, BeginsKey, IsLineMatch};
 
-use crate::lines::{begins_no_entry, blanks_length, ending_length, text_length};
-use crate::pieces::{key_size_behind, line_size, plain_key_length};
+use crate::lines::ending_length;
+use crate::pieces::line_size;
+use crate::starts::{KeyStart, Start, start_of};
 use crate::tree::says_key;
 use memchr::memmem;
 use rw_base::Mem;
@@ -19,64 +20,52 @@ pub struct KeyPlace {
     pub next: usize,
 }
 
-// What a text begins with: a line of so many bytes that is passed over, or an entry, and whether its key is known to
-// have no backslash.
-#[derive(Clone, Copy)]
-enum Start {
-    Passed(usize),
-    Entry(KeyPlace, bool),
-}
-
 // What a text begins with: lines of so many bytes that aren't looked for, or an entry that is.
 #[derive(Clone, Copy)]
-enum Seen {
+enum LineMatch {
     Kept(usize),
     WithKey(KeyPlace),
 }
 
-// What a text begins with, where a line begins.
-fn start_of(text: &[u8]) -> Start
-    requires { 0 < length text.now }
-    ensures { IsStart text.now result }
+// Where the key stands of the entry that a text begins with.
+fn key_place(text: &[u8], start: KeyStart) -> KeyPlace
+    requires { IsKeyStart text.now start }
+    ensures place { BeginsKey text.now result }
+    ensures from { result.from ≡ start.blanks }
+    ensures to { result.to ≡ start.blanks + start.key }
 {
-    let blanks = blanks_length(text);
-    let line = &text[blanks..];
-    if begins_no_entry(line) {
-        let end = text_length(text);
-        return Start::Passed(end + ending_length(&text[end..]));
-    }
-    let plain = plain_key_length(line);
-    let key = key_size_behind(line, plain);
-    let behind_key = &line[key..];
+    let to = start.blanks + start.key;
+    let behind_key = &text[to..];
     let rest = line_size(behind_key);
     let ending = ending_length(&behind_key[rest..]);
-    let place = KeyPlace {
-        from: blanks,
-        to: blanks + key,
-        next: blanks + key + rest + ending,
-    };
-    Start::Entry(place, key == plain)
+    KeyPlace {
+        from: start.blanks,
+        to,
+        next: to + rest + ending,
+    }
 }
 
 // What a text begins with, where a line begins and this key is looked for.
-fn seen_at(alloc: Global, text: &[u8], key: &[u8]) -> Mem<Seen>
+fn match_line(alloc: Global, text: &[u8], key: &[u8]) -> Mem<LineMatch>
     requires { 0 < length text.now }
-    ensures { IfOk result (λ seen. IsSeen key.now text.now seen) }
+    ensures { IfOk result (λ line. IsLineMatch key.now text.now line) }
 {
     match start_of(text) {
-        Start::Passed(size) => Ok(Seen::Kept(size)),
-        Start::Entry(place, plain) => {
-            if says_key(alloc, text, 0, &text[place.from..place.to], plain, key)? {
-                Ok(Seen::WithKey(place))
+        Start::Passed(size) => Ok(LineMatch::Kept(size)),
+        Start::Entry(start) => {
+            let place = key_place(text, start);
+            let part = &text[place.from..place.to];
+            if says_key(alloc, text, 0, part, start.plain, key)? {
+                Ok(LineMatch::WithKey(place))
             } else {
-                Ok(Seen::Kept(place.next))
+                Ok(LineMatch::Kept(place.next))
             }
         }
     }
 }
 
-// Whether an entry with this key may stand in a text: the key does, or a backslash does, so that some other bytes may say
-// the key.
+// Whether an entry with this key may stand in a text: the key does, or a backslash does, so that some other bytes may
+// say the key.
 fn may_stand(text: &[u8], key: &[u8]) -> bool
     ensures { result ≡ false → (written : List ℕ) → with_key key.now written text.now ≡ text.now }
 {
@@ -94,9 +83,9 @@ pub fn next_with_key(alloc: Global, bytes: &[u8], at: usize, key: &[u8]) -> Mem<
     }
     let mut line = at;
     while line < bytes.len() {
-        match seen_at(alloc, &bytes[line..], key)? {
-            Seen::Kept(size) => line += size,
-            Seen::WithKey(place) => {
+        match match_line(alloc, &bytes[line..], key)? {
+            LineMatch::Kept(size) => line += size,
+            LineMatch::WithKey(place) => {
                 return Ok(Some(KeyPlace {
                     from: line + place.from,
                     to: line + place.to,

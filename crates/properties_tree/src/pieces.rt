@@ -1,8 +1,9 @@
 // Logical lines, piece by piece.
 ghost use Rattle.std.specs.Prelude.{◌≡◌, ◌++◌, ◌∷◌, ◌+◌, ◌≤◌, length, take, drop, false, IfOk};
-ghost use Rattle.properties_tree.specs.Characters.{has_backslash};
+ghost use Rattle.properties_tree.specs.Plain.{has_backslash};
 ghost use Rattle.properties_tree.specs.Entries.{characters_of};
-ghost use Rattle.properties_tree.specs.Cutting.{joins, joint_size, key_size, separator_size, line_size, pieces_in, key_end, IsNext};
+ghost use Rattle.properties_tree.specs.Cutting.{joins, joint_size, key_size, separator_size, line_size, pieces_in};
+ghost use Rattle.properties_tree.specs.Cutting.{key_end, IsNext};
 
 use crate::bytes::{ends_key, is_blank, is_line_end, is_plain, is_plain_in_key, is_separator};
 use crate::lines::{blanks_length, ending_length};
@@ -102,14 +103,6 @@ pub fn key_size_behind(text: &[u8], read: usize) -> usize
         }
     }
     end
-}
-
-// The bytes of the key that a text begins with.
-pub fn key_size(text: &[u8]) -> usize
-    ensures value { result ≡ key_size text.now }
-    ensures inside { result ≤ length text.now }
-{
-    key_size_behind(text, plain_key_length(text))
 }
 
 // The bytes of the separator that a text begins with.

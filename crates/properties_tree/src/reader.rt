@@ -1,15 +1,17 @@
 // Properties files read into trees, in one pass.
-ghost use Rattle.std.specs.Prelude.{◌≡◌, ◌==◌, ◌+◌, ◌*◌, ◌-◌, ◌<◌, ◌≤◌, ◌^◌, ◌++◌, ◌∷◌, [], ℕ, List, ◌↔◌, length, take, drop, false, IsTrue, IfOk, OnOk};
+ghost use Rattle.std.specs.Prelude.{◌≡◌, ◌+◌, ◌*◌, ◌<◌, ◌≤◌, ◌^◌, ◌++◌, ◌∷◌, [], length, IfOk, OnOk};
 ghost use Rattle.rw_base.specs.Arena.{end_of};
 ghost use Rattle.rw_base.specs.declared.place.Refused.{Refused};
 ghost use Rattle.properties_tree.specs.Layout.{entry_row, tree_of};
 ghost use Rattle.properties_tree.specs.Reading.{leaves_at, IsRead, numbered_parts};
-ghost use Rattle.properties_tree.specs.Refusal.{too_large};
-ghost use Rattle.properties_tree.specs.Sizes.{Begins, whole_size};
+ghost use Rattle.properties_tree.specs.Refusal.{too_large, IsTooLarge};
+ghost use Rattle.properties_tree.specs.Sizes.{BeginsEntry, whole_size};
+ghost use Rattle.properties_tree.specs.Starts.{IsKeyStart};
 
 use crate::layout::{END, ENDING, ENTRY, FILE, KEY, SEPARATOR, VALUE};
-use crate::lines::{begins_no_entry, blanks_length, ending_length, text_length};
-use crate::pieces::{key_size, line_size, separator_size};
+use crate::lines::ending_length;
+use crate::pieces::{line_size, separator_size};
+use crate::starts::{KeyStart, Start, start_of};
 use rw_base::{
     Cause, Leaf, MOST_BYTES, Mem, NodeId, NodeRow, Part, ReadFault, Refused, Tree, place_of,
 };
@@ -26,37 +28,23 @@ struct Sizes {
     ending: usize,
 }
 
-// What a text begins with: a line that is passed over, or an entry.
-#[derive(Clone, Copy)]
-enum Found {
-    Passed(usize),
-    Entry(Sizes),
-}
-
-// What a text begins with, where a line begins.
-fn first_of(text: &[u8]) -> Found
-    requires { 0 < length text.now }
-    ensures { Begins text.now result }
+// How many bytes the parts of an entry have that a text begins with.
+fn entry_sizes(text: &[u8], start: KeyStart) -> Sizes
+    requires { IsKeyStart text.now start }
+    ensures { BeginsEntry text.now result }
 {
-    let blanks = blanks_length(text);
-    let line = &text[blanks..];
-    if begins_no_entry(line) {
-        let end = text_length(text);
-        return Found::Passed(end + ending_length(&text[end..]));
-    }
-    let key = key_size(line);
-    let behind_key = &line[key..];
+    let behind_key = &text[start.blanks + start.key..];
     let separator = separator_size(behind_key);
     let behind_separator = &behind_key[separator..];
     let value = line_size(behind_separator);
     let ending = ending_length(&behind_separator[value..]);
-    Found::Entry(Sizes {
-        blanks,
-        key,
+    Sizes {
+        blanks: start.blanks,
+        key: start.key,
         separator,
         value,
         ending,
-    })
+    }
 }
 
 // The leaves of an entry, and its node.
@@ -157,9 +145,11 @@ fn read_line(
     ensures read { IfOk result (λ next. IsRead bytes.now leaves.new.items nodes.new.items next.0 next.1) }
     ensures further { IfOk result (λ next. at < next.1) }
 {
-    match first_of(&bytes[at..]) {
-        Found::Passed(size) => Ok((from, at + size)),
-        Found::Entry(sizes) => {
+    let text = &bytes[at..];
+    match start_of(text) {
+        Start::Passed(size) => Ok((from, at + size)),
+        Start::Entry(start) => {
+            let sizes = entry_sizes(text, start);
             push_entry(alloc, leaves, nodes, from, at, sizes)?;
             let next = at
                 + (sizes.blanks + sizes.key + sizes.separator + sizes.value + sizes.ending);
@@ -209,7 +199,7 @@ pub fn read_properties(alloc: Global, bytes: &[u8]) -> Result<Tree, ReadFault>
     ensures tree { IfOk result (λ tree. tree ≡ tree_of bytes.now) }
     ensures size { IfOk result (λ tree. length bytes.now ≡ end_of tree) }
     ensures fits { OnOk result (length bytes.now ≤ MOST_BYTES) }
-    ensures refused { (refused : Refused) → result ≡ Err (ReadFault.Refused refused) → (MOST_BYTES < length bytes.now) × (refused ≡ too_large bytes.now) }
+    ensures refused { (why : Refused) → result ≡ Err (ReadFault.Refused why) → IsTooLarge bytes.now why }
     ensures too_large { MOST_BYTES < length bytes.now → result ≡ Err (ReadFault.Refused (too_large bytes.now)) }
 {
     if bytes.len() > MOST_BYTES {

@@ -1,6 +1,7 @@
 // Keys written so that reading them gives them back.
 ghost use Rattle.std.specs.Prelude.{◌≡◌, ◌++◌, IfOk, OnOk};
-ghost use Rattle.properties_tree.specs.Spelling.{spell_byte, is_marked_in_key, spelled_key, spelled_rest, spelled_value};
+ghost use Rattle.properties_tree.specs.Spelling.{spell_byte, is_marked_in_key, spelled_key, spelled_rest};
+ghost use Rattle.properties_tree.specs.Spelling.{spelled_value};
 
 use crate::bytes::{is_comment_mark, is_separator};
 use crate::lines::begins_with_separator;

@@ -1,6 +1,6 @@
 // What the tree of a properties file says of its entries.
 ghost use Rattle.std.specs.Prelude.{◌≡◌, ◌<◌, ◌+◌, ◌*◌, ◌↔◌, false, IsTrue, IfOk, length};
-ghost use Rattle.properties_tree.specs.Characters.{has_backslash};
+ghost use Rattle.properties_tree.specs.Plain.{has_backslash};
 ghost use Rattle.properties_tree.specs.Entries.{properties_of, bytes_of};
 ghost use Rattle.properties_tree.specs.Decoding.{key_text, value_text, entry_at};
 ghost use Rattle.properties_tree.specs.Layout.{tree_of, key_leaf_of};
@@ -42,7 +42,8 @@ fn key_bytes<'b>(tree: &Tree, bytes: &'b [u8], entry: NodeId) -> &'b [u8]
     tree.text(bytes, key_leaf(tree, bytes, entry))
 }
 
-/// What stands before an entry, back to the entry before it: lines that are passed over, and the blanks of its own line.
+/// What stands before an entry, back to the entry before it: lines that are passed over, and the blanks of its own
+/// line.
 #[tactic(auto, using(crate::proofs::InTree::in_tree, crate::proofs::Prefixed::prefix_is))]
 pub fn prefix_of_entry<'b>(tree: &Tree, bytes: &'b [u8], entry: NodeId) -> &'b [u8]
     requires tree { tree.now ≡ tree_of bytes.now }

@@ -1,5 +1,5 @@
 use Rattle.std.proofs.Common.{◌≡◌, take, drop, false}
-use Rattle.properties_tree.specs.Characters.{has_backslash}
+use Rattle.properties_tree.specs.Plain.{has_backslash}
 use Rattle.properties_tree.specs.Cutting.{key_size, key_end, pieces_in}
 use Rattle.properties_tree.proofs.pieces.plain_key_length.Given as goal
 

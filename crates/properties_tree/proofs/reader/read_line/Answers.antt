@@ -12,5 +12,5 @@ returns-in-Passed-clause-read c =
 pub returns-in_ok-push_entry-in-Entry-clause-read : goal.returns-in_ok-push_entry-in-Entry-clause-read
 returns-in_ok-push_entry-in-Entry-clause-read c =
     rw (c.in_ok-push_entry-in-Entry.ensures.leaves, c.in_ok-push_entry-in-Entry.ensures.nodes)
-    (entry_read c.args.bytes.now c.args.leaves.now.items c.args.nodes.now.items c.args.from c.args.at c.in-Entry.sizes
-    (subst (λ (t : List ℕ). BeginsEntry t c.in-Entry.sizes) (take_rest c.args.bytes.now c.args.at) c.in-Entry.ensures) c.requires.read)
+    (entry_read c.args.bytes.now c.args.leaves.now.items c.args.nodes.now.items c.args.from c.args.at c.entry_sizes-sizes.result
+    (subst (λ (t : List ℕ). BeginsEntry t c.entry_sizes-sizes.result) (take_rest c.args.bytes.now c.args.at) c.entry_sizes-sizes.ensures) c.requires.read)

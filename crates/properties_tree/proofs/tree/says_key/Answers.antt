@@ -4,7 +4,7 @@ use Rattle.std.proofs.lemmas.Bool.Decides.{Decides-eqb}
 use Rattle.properties_tree.specs.Entries.{characters_of}
 use Rattle.properties_tree.specs.Cutting.{pieces_in}
 use Rattle.properties_tree.specs.Decoding.{decode, key_text, entry_at}
-use Rattle.properties_tree.specs.Characters.{has_backslash}
+use Rattle.properties_tree.specs.Plain.{has_backslash}
 use Rattle.properties_tree.proofs.Alone.{key_said}
 use Rattle.properties_tree.proofs.Marked.{plain_key}
 use Rattle.properties_tree.proofs.tree.says_key.Goals as goal

@@ -1,5 +1,5 @@
 use Rattle.conf_recipes.proofs.Copied.{IsWritten, left_behind}
-use Rattle.conf_recipes.proofs.renaming.written.Given as goal
+use Rattle.conf_recipes.proofs.renaming.write_keys.Given as goal
 
 abbrev pub invariant-loop-next : goal.invariant-loop-next
 invariant-loop-next l = IsWritten l.key l.spelled l.bytes l.out.items l.copied l.next

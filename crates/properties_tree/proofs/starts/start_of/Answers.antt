@@ -1,6 +1,6 @@
 use Rattle.std.proofs.Common.{sym, ◌∙◌}
-use Rattle.properties_tree.proofs.First.{passed_found, entry_found}
-use Rattle.properties_tree.proofs.reader.first_of.Goals as goal
+use Rattle.properties_tree.proofs.First.{passed_found, key_started}
+use Rattle.properties_tree.proofs.starts.start_of.Goals as goal
 
 pub returns-then-begins_no_entry : goal.returns-then-begins_no_entry
 returns-then-begins_no_entry c =
@@ -10,7 +10,6 @@ returns-then-begins_no_entry c =
 
 pub returns : goal.returns
 returns c =
-    entry_found c.args.text.now c.requires c.blanks_length-blanks.result c.key_size-key.result c.separator_size-separator.result c.line_size-value.result c.ending_length-ending.result
+    key_started c.args.text.now c.blanks_length-blanks.result c.key_size_behind-key.result c.plain_key_length-plain.result
     c.blanks_length-blanks.ensures.value c.blanks_length-blanks.ensures.inside (sym c.begins_no_entry.ensures ∙ c.if-begins_no_entry.false)
-    c.key_size-key.ensures.value c.key_size-key.ensures.inside c.separator_size-separator.ensures.value c.separator_size-separator.ensures.inside
-    c.line_size-value.ensures.value c.line_size-value.ensures.inside c.ending_length-ending.ensures.value c.ending_length-ending.ensures.inside
+    c.key_size_behind-key.ensures.value c.key_size_behind-key.ensures.inside c.plain_key_length-plain.ensures.plain

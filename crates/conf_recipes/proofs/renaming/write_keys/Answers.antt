@@ -2,7 +2,7 @@ use Rattle.std.proofs.Common.{List, ℕ, Option, ◌++◌, ◌∙◌, ap, subst}
 use Rattle.std.proofs.lemmas.List.{take_rest}
 use Rattle.properties_tree.specs.declared.keys.KeyPlace.{KeyPlace}
 use Rattle.conf_recipes.proofs.Copied.{IsWritten, more_written, ended_written}
-use Rattle.conf_recipes.proofs.renaming.written.Goals as goal
+use Rattle.conf_recipes.proofs.renaming.write_keys.Goals as goal
 
 pub loop-next-preserved : goal.loop-next-preserved
 loop-next-preserved c =
