@@ -1,5 +1,5 @@
 -- Each file has leaves: at each place something stands next.
-use Rattle.std.proofs.Common.{◌≡◌, ℕ, suc, zero, ◌+◌, ◌-◌, ◌%◌, ◌<◌, ◌≤◌, ◌⊎◌, inl, inr, Bool, true, false, ◌&&◌, ◌||◌, eqb, ltb, List, [], ◌∷◌, length, take, drop, get_or, Option, Some, None, refl, sym, ◌∙◌, ap, subst, arith}
+use Rattle.std.proofs.Common.{◌≡◌, ℕ, suc, zero, ◌+◌, ◌-◌, ◌<◌, ◌≤◌, ◌⊎◌, inl, inr, Bool, true, false, ◌&&◌, ◌||◌, eqb, List, [], ◌∷◌, length, take, drop, get_or, Option, Some, None, refl, sym, ◌∙◌, ap, subst, arith}
 use Rattle.std.proofs.lemmas.Bool.{cases_lt}
 use Rattle.std.proofs.lemmas.Bool.Decides.{nat_tests}
 use Rattle.std.proofs.lemmas.List.{length-drop, get_or_past}
@@ -12,18 +12,18 @@ use Rattle.rw_base.specs.declared.leaves.Bad.{Bad}
 use Rattle.rw_base.specs.Expressions.{Expression}
 use Rattle.java_lex.specs.declared.automaton.Found.{Found}
 use Rattle.java_lex.specs.Literals.{literal_refused, comment_refused}
-use Rattle.java_lex.specs.Kinds.{Fits, kinds, is_literal}
+use Rattle.java_lex.specs.Kinds.{Fits, is_literal}
 use Rattle.java_lex.specs.Words.{begins_word, continues_word, word_class}
-use Rattle.java_lex.specs.Escapes.{IsRefusedAt, IsFirstRefused, NoneRefused, backslashes}
-use Rattle.java_lex.specs.Blanks.{is_white, is_line_end, begins_comment, begins_line_comment, begins_block_comment, ClosesAt, IsComment, line, block, IsLineComment, IsBlockComment, IsOpenComment}
-use Rattle.java_lex.specs.Leaves.{Cuts, passed, leaf, ended, stopped, IsBlank, white, comment, IsNextLeaf, IsLeafPlace, IsLongest, BeginsNone, CanGoOn, IsBad, broken_end, in_comment, open_comment, in_literal, open_literal, no_leaf, IsBadOpen, never_closed, escaped, cut_off, end_leaf, AreJavaLeaves, utf8_front, is_broken, mark_size}
-use Rattle.java_lex.specs.Scanning.{IsFirstSize, IsWordSize, IsStart, IsEscape, escape_of, known, IsLongestOf, next_state, state_class}
+use Rattle.java_lex.specs.Escapes.{IsRefusedAt, IsFirstRefused, NoneRefused}
+use Rattle.java_lex.specs.Blanks.{is_white, is_line_end, begins_line_comment, begins_block_comment, ClosesAt, IsComment, line, block}
+use Rattle.java_lex.specs.Leaves.{Cuts, passed, leaf, ended, stopped, IsBlank, white, comment, IsNextLeaf, IsLeafPlace, IsLongest, BeginsNone, IsBad, broken_end, in_comment, open_comment, in_literal, open_literal, no_leaf, IsBadOpen, never_closed, escaped, cut_off, end_leaf, AreJavaLeaves, utf8_front, is_broken, mark_size}
+use Rattle.java_lex.specs.Scanning.{IsFirstSize, IsWordSize, IsStart, IsEscape, escape_of, IsLongestOf, next_state, state_class}
 use Rattle.java_lex.specs.Laws.{AreBytes}
-use Rattle.java_lex.proofs.Following.{either-true, or-true}
+use Rattle.java_lex.proofs.Following.{either-true}
 use Rattle.java_lex.proofs.Wording.{wide-some, wide-other, wide-none, IsGrown, grown-init, grown-more, grown-end, no-word}
 use Rattle.java_lex.proofs.Best.{IsBest, best-init, best-longer, best-stays, best-dead, best-end}
 use Rattle.java_lex.proofs.Escaping.{IsClear, clear-init, clear-plain, clear-pair, clear-end, escape-begins, escape-known}
-use Rattle.java_lex.proofs.Pieces.{word-leaf, other-leaf, other-longest, other-some, begins-none}
+use Rattle.java_lex.proofs.Pieces.{word-leaf, other-leaf, other-longest, begins-none}
 use Rattle.java_lex.proofs.Tiling.{next-some, blank-inside}
 use Rattle.java_lex.proofs.Steps.{bytes-drop, bytes-take}
 
