@@ -53,8 +53,8 @@ fn write_keys(
 }
 
 /// The new text of a properties file of at most `MOST_BYTES`, with the edits of
-/// `org.openrewrite.properties.ChangePropertyKey`, and `None` where that is the old text, as where no entry has the old
-/// key. It makes no tree and no edits.
+/// `org.openrewrite.properties.ChangePropertyKey`; `None` only where that is the old text. It makes no tree and no
+/// edits.
 pub fn renamed_in_properties(
     alloc: Global,
     bytes: &[u8],
