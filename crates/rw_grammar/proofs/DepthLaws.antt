@@ -6,6 +6,7 @@ use Rattle.std.proofs.lemmas.List.{get_or_at}
 use Rattle.rw_base.specs.declared.tree.Part.{Part}
 use Rattle.rw_base.specs.declared.tree.Part.TheVariants as part
 use Rattle.rw_base.specs.declared.tree.NodeRow.{NodeRow}
+use Rattle.rw_base.specs.Arena.{row_at, no_row, first_of, parts_of}
 use Rattle.rw_base.specs.Trees.{none, leaf, node, Forest, size, width, trees_in}
 use Rattle.rw_base.specs.Rows.{value, folded}
 use Rattle.rw_base.specs.RowLaws.{value_at}
@@ -278,32 +279,33 @@ module _ (rows : List NodeRow) (hs : List ℕ) (made : hs ≡ all_heights rows) 
     pub spot_inside : n < length rows
     spot_inside = omega (arith, s.is, inside_here rows s.first s.at s.kind s.kids s.others s.among)
 
-    the_row : (d : NodeRow) → get_or rows n d ≡ row_from s.first s.at s.kind s.kids
-    the_row d = ap (λ j. get_or rows j d) s.is ∙ row_at_here rows s.first s.at s.kind s.kids s.others s.among d
+    row_is : row_at rows n ≡ row_from s.first s.at s.kind s.kids
+    unfolding row_at
+    row_is = ap (λ j. get_or rows j no_row) s.is ∙ row_at_here rows s.first s.at s.kind s.kids s.others s.among no_row
 
-    module _ (row : NodeRow) (got : row ≡ get_or rows n row) where
-      row_is : row ≡ row_from s.first s.at s.kind s.kids
-      row_is = got ∙ the_row row
+    module _ (ps : List Part) (got : ps ≡ parts_of rows n) where
+      parts_are : ps ≡ parts_from s.first s.kids
+      parts_are = got ∙ ap (λ (r : NodeRow). r.parts) row_is
 
-      counts_is : worth (length row.parts) ≡ worth (trees_in s.kids)
-      counts_is = ap (λ (r : NodeRow). worth (length r.parts)) row_is ∙ ap worth (length-parts s.first s.kids)
+      counts_is : worth (length ps) ≡ worth (trees_in s.kids)
+      counts_is = ap (λ (qs : List Part). worth (length qs)) parts_are ∙ ap worth (length-parts s.first s.kids)
 
       -- the place is here
-      pub spot_found : allowed < worth (length row.parts) → IsFirstOf row.first whole
-      spot_found lt = go (nat_le 2 (trees_in s.kids)) refl
+      pub spot_found : (first : ℕ) → first ≡ first_of rows n → allowed < worth (length ps) → IsFirstOf first whole
+      spot_found first first_is lt = go (nat_le 2 (trees_in s.kids)) refl
         where
-          go : (b : Bool) → nat_le 2 (trees_in s.kids) ≡ b → IsFirstOf row.first whole
+          go : (b : Bool) → nat_le 2 (trees_in s.kids) ≡ b → IsFirstOf first whole
           go true e =
               let deep : nat_le DEPTH_LIMIT s.around_it ≡ true = le_true DEPTH_LIMIT s.around_it (omega (arith, s.depth, lt, counts_is, worth_one (trees_in s.kids))) in
               let here_is : results.here s.around_it s.at s.kids ≡ s.at ∷ [] = rw (e, deep) refl in
               record {
                 others = too_deep (around s.around_it s.kids) s.at s.kids ++ s.rest;
-                all = s.ahead ∙ (ap (λ xs. (xs ++ too_deep (around s.around_it s.kids) s.at s.kids) ++ s.rest) here_is ∙ ap (λ i. i ∷ (too_deep (around s.around_it s.kids) s.at s.kids ++ s.rest)) (sym (ap (λ (r : NodeRow). r.first) row_is)));
+                all = s.ahead ∙ (ap (λ xs. (xs ++ too_deep (around s.around_it s.kids) s.at s.kids) ++ s.rest) here_is ∙ ap (λ i. i ∷ (too_deep (around s.around_it s.kids) s.at s.kids ++ s.rest)) (sym (first_is ∙ ap (λ (r : NodeRow). r.first) row_is)));
               }
           go false e = let light : worth (trees_in s.kids) ≡ 0 = rw e refl in absurd (omega (arith, lt, counts_is, light))
 
       -- or in a part
-      below : (b : Bool) → nat_le 2 (trees_in s.kids) ≡ b → worth (length row.parts) ≤ allowed → (j : ℕ) × (j + (allowed - worth (length row.parts)) ≡ DEPTH_LIMIT) × (whole ≡ too_deep j s.at s.kids ++ s.rest) × (allowed - worth (length row.parts) < height s.kids)
+      below : (b : Bool) → nat_le 2 (trees_in s.kids) ≡ b → worth (length ps) ≤ allowed → (j : ℕ) × (j + (allowed - worth (length ps)) ≡ DEPTH_LIMIT) × (whole ≡ too_deep j s.at s.kids ++ s.rest) × (allowed - worth (length ps) < height s.kids)
       below true e le =
           let heavy : worth (trees_in s.kids) ≡ 1 = rw e refl in
           let low : nat_le DEPTH_LIMIT s.around_it ≡ false = le_false DEPTH_LIMIT s.around_it (omega (arith, s.depth, le, counts_is, heavy)) in
@@ -314,17 +316,17 @@ module _ (rows : List NodeRow) (hs : List ℕ) (made : hs ≡ all_heights rows) 
           let own : own_deep s.around_it s.at s.kids ≡ too_deep s.around_it s.at s.kids = rw e refl in
           (s.around_it, omega (arith, s.depth, counts_is, light), s.ahead ∙ ap (λ xs. xs ++ s.rest) own, omega (arith, s.high, counts_is, light))
 
-      looked : (a : ℕ) → first_above (slice_index hs) a row.parts ≡ first_above (tall rows) a (parts_from s.first s.kids)
-      looked a = same_above (slice_index hs) (tall rows) a row.parts height_is ∙ ap (λ (r : NodeRow). first_above (tall rows) a r.parts) row_is
+      looked : (a : ℕ) → first_above (slice_index hs) a ps ≡ first_above (tall rows) a (parts_from s.first s.kids)
+      looked a = same_above (slice_index hs) (tall rows) a ps height_is ∙ ap (λ (qs : List Part). first_above (tall rows) a qs) parts_are
 
-      pub spot_next : (m : ℕ) → worth (length row.parts) ≤ allowed → first_above (slice_index hs) (allowed - worth (length row.parts)) row.parts ≡ Some m → (m < n) × Spot rows whole m (allowed - worth (length row.parts))
+      pub spot_next : (m : ℕ) → worth (length ps) ≤ allowed → first_above (slice_index hs) (allowed - worth (length ps)) ps ≡ Some m → (m < n) × Spot rows whole m (allowed - worth (length ps))
       spot_next m le h =
           let b = below (nat_le 2 (trees_in s.kids)) refl le in
-          let r = enter rows whole s.rest s.kids s.first s.at b.0 (allowed - worth (length row.parts)) m (among_kids rows s.first s.at s.kind s.kids s.others s.among) b.1 (sym (looked (allowed - worth (length row.parts))) ∙ h) b.2 in
+          let r = enter rows whole s.rest s.kids s.first s.at b.0 (allowed - worth (length ps)) m (among_kids rows s.first s.at s.kind s.kids s.others s.among) b.1 (sym (looked (allowed - worth (length ps))) ∙ h) b.2 in
           (omega (arith, r.0, s.is), r.1)
 
-      pub spot_ends : worth (length row.parts) ≤ allowed → first_above (slice_index hs) (allowed - worth (length row.parts)) row.parts ≡ None → ⊥
+      pub spot_ends : worth (length ps) ≤ allowed → first_above (slice_index hs) (allowed - worth (length ps)) ps ≡ None → ⊥
       spot_ends le h =
           let b = below (nat_le 2 (trees_in s.kids)) refl le in
-          let low = none_above rows s.kids s.first s.at (allowed - worth (length row.parts)) (among_kids rows s.first s.at s.kind s.kids s.others s.among) (sym (looked (allowed - worth (length row.parts))) ∙ h) in
+          let low = none_above rows s.kids s.first s.at (allowed - worth (length ps)) (among_kids rows s.first s.at s.kind s.kids s.others s.among) (sym (looked (allowed - worth (length ps))) ∙ h) in
           omega (arith, low, b.3)

@@ -9,7 +9,7 @@ use Rattle.rw_base.specs.Laid.{laid, laid_rows}
 use Rattle.rw_base.specs.LaidTrees.{laid_is_tree}
 use Rattle.rw_grammar.specs.Parts.{Parts, rule_of}
 use Rattle.rw_grammar.specs.Derivation.{wrapped, Derives, by-end, by-one, by-rule, by-choice, by-empty, by-opt, by-no-opt, by-more, by-no-more}
-use Rattle.rw_grammar.specs.Results.{class_in, AreTreeLeaves, AreRowsOf}
+use Rattle.rw_grammar.specs.Results.{class_in, tree_of, AreTreeLeaves, AreRowsOf}
 
 wrapped_leaves : (r : ℕ) (f : Forest) → leaves_in (wrapped r f) ≡ leaves_in f
 wrapped_leaves r none = refl
@@ -35,7 +35,7 @@ module _ (rules : ℕ → Parts) (class : ℕ → ℕ) where
   derived_leaves {ls = ls} {rest = rest} {f = t} (by-more {mid = m} {f = f} {g = g} k d e q) = two ls m rest f g t (derived_leaves d) (derived_leaves e) q
   derived_leaves (by-no-more n d) = derived_leaves d
 
-module _ (rules : List Parts) (start : ℕ) (leaves : List Leaf) (rows : List NodeRow) (r : AreRowsOf rules start leaves rows) (few : length rows < 2 ^ 32) where
+module _ (rules : List Parts) (start : ℕ) (leaves : List Leaf) (rows : List NodeRow) (r : AreRowsOf rules start leaves rows) where
   kids_leaves : leaves_in r.kids ≡ numbers 0 (length leaves)
   kids_leaves =
       let d = r.derived in
@@ -46,12 +46,12 @@ module _ (rules : List Parts) (start : ℕ) (leaves : List Leaf) (rows : List No
   pub count : length rows ≡ size r.kids + 1
   count = ap length r.are ∙ (length-rows 0 0 (node tt r.kind r.kids none) ∙ omega arith)
 
-  pub made_is : (root : ℕ) → root ≡ length rows - 1 → let t : Arena = record { leaves = leaves; nodes = rows; root = root } in t ≡ laid leaves r.kind r.kids
-  made_is root e = the_same (laid_rows r.kind r.kids) (size r.kids) r.are (omega (arith, e, count))
+  pub made_is : tree_of leaves rows ≡ laid leaves r.kind r.kids
+  made_is = the_same (laid_rows r.kind r.kids) (size r.kids) r.are (omega (arith, count))
     where
-      the_same : (xs : List NodeRow) (n : ℕ) → rows ≡ xs → root ≡ n → let t : Arena = record { leaves = leaves; nodes = rows; root = root } in let u : Arena = record { leaves = leaves; nodes = xs; root = n } in t ≡ u
+      the_same : (xs : List NodeRow) (n : ℕ) → rows ≡ xs → length rows - 1 ≡ n → let u : Arena = record { leaves = leaves; nodes = xs; root = n } in tree_of leaves rows ≡ u
       the_same xs n p q = cc
 
-  pub made_tree : AreTreeLeaves leaves → (root : ℕ) → root ≡ length rows - 1 → IsTree (record { leaves = leaves; nodes = rows; root = root })
-  made_tree l root e =
-      subst IsTree (sym (made_is root e)) (laid_is_tree leaves r.kind r.kids l.some l.few l.tile l.empty_end kids_leaves (omega (arith, count)))
+  pub made_tree : length rows < 2 ^ 32 → AreTreeLeaves leaves → IsTree (tree_of leaves rows)
+  made_tree few l =
+      subst IsTree (sym made_is) (laid_is_tree leaves r.kind r.kids l.some l.few l.tile l.empty_end kids_leaves (omega (arith, few, count)))

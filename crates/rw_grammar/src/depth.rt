@@ -1,11 +1,11 @@
 // Which node lies too deep.
-ghost use Rattle.std.specs.Prelude.{◌≡◌, ℕ, [], ◌+◌, ◌<◌, ◌≤◌, ◌^◌, length, slice_index, IfOk};
+ghost use Rattle.std.specs.Prelude.{◌≡◌, ℕ, [], ◌+◌, ◌<◌, ◌≤◌, ◌^◌, length, slice_index, IfOk, OnOk};
 ghost use Rattle.rw_base.specs.Trees.{Forest, none, node};
 ghost use Rattle.rw_base.specs.Laid.{rows_from};
 ghost use Rattle.rw_grammar.specs.Depth.{worth, highest_of, first_above, all_heights};
 ghost use Rattle.rw_grammar.specs.Results.{too_deep, IsOneTree, IsFirstOf};
 
-use rw_base::{Mem, NodeRow, Part};
+use rw_base::{Mem, NodeId, Nodes, Part};
 use std::alloc::Global;
 
 /// A node with two or more parts that lies below so many such nodes is too deep.
@@ -33,20 +33,21 @@ fn highest(parts: &[Part], heights: &[u32]) -> u32
 }
 
 /// A node with two or more parts counts.
-fn weight(row: &NodeRow) -> u32
-    ensures { result ≡ worth (length row.now.parts) }
+fn weight(parts: &[Part]) -> u32
+    ensures { result ≡ worth (length parts.now) }
 {
-    if 2 <= row.parts.len() { 1 } else { 0 }
+    if 2 <= parts.len() { 1 } else { 0 }
 }
 
 /// For each node how many nodes with two or more parts lie on the longest way down from it, itself among them.
-fn heights_of(alloc: Global, rows: &[NodeRow]) -> Mem<Vec<u32>>
-    requires { length rows.now < 2 ^ 32 }
-    ensures { IfOk result (λ heights. heights.items ≡ all_heights rows.now) }
+fn heights_of(alloc: Global, nodes: &Nodes) -> Mem<Vec<u32>>
+    ensures { IfOk result (λ heights. heights.items ≡ all_heights nodes.now) }
 {
-    let mut heights = Vec::with_capacity(alloc, rows.len())?;
-    for row in rows {
-        let height = weight(row) + highest(row.parts.as_slice(), heights.as_slice());
+    let count = nodes.len();
+    let mut heights = Vec::with_capacity(alloc, count as usize)?;
+    for n in 0..count {
+        let parts = nodes.parts(NodeId(n));
+        let height = weight(parts) + highest(parts, heights.as_slice());
         heights.push(height)?;
     }
     Ok(heights)
@@ -66,30 +67,30 @@ fn first_high(parts: &[Part], heights: &[u32], height: u32) -> Option<u32>
     None
 }
 
-/// The first leaf of the first node with two or more parts that lies below too many such nodes. The root is the last
-/// row.
-pub(crate) fn first_too_deep(alloc: Global, rows: &[NodeRow]) -> Mem<Option<u32>>
-    requires tree { IsOneTree rows.now }
-    requires few { length rows.now < 2 ^ 32 }
-    ensures none { result ≡ Ok None → (k : ℕ) (kids : Forest) → rows.now ≡ rows_from 0 0 (node tt k kids none)
+/// The first leaf of the first node with two or more parts that lies below too many such nodes. The root is the last.
+pub(crate) fn first_too_deep(alloc: Global, nodes: &Nodes) -> Mem<Option<u32>>
+    requires tree { IsOneTree nodes.now }
+    ensures none { result ≡ Ok None → (k : ℕ) (kids : Forest) → nodes.now ≡ rows_from 0 0 (node tt k kids none)
         → too_deep 0 0 (node tt k kids none) ≡ [] }
     ensures some { (leaf : ℕ) → result ≡ Ok (Some leaf) → (k : ℕ) (kids : Forest)
-        → rows.now ≡ rows_from 0 0 (node tt k kids none) → IsFirstOf leaf (too_deep 0 0 (node tt k kids none)) }
+        → nodes.now ≡ rows_from 0 0 (node tt k kids none) → IsFirstOf leaf (too_deep 0 0 (node tt k kids none)) }
+    ensures few { OnOk result (length nodes.now < 2 ^ 32) }
 {
-    let heights = heights_of(alloc, rows)?;
-    let mut n = (rows.len() - 1) as u32;
+    let heights = heights_of(alloc, nodes)?;
+    let mut n = nodes.len() - 1;
     let mut allowed = DEPTH_LIMIT;
     if height_at(heights.as_slice(), n) <= allowed {
         return Ok(None);
     }
     'down: loop {
-        let row = &rows[n as usize];
-        let counts = weight(row);
+        let parts = nodes.parts(NodeId(n));
+        let counts = weight(parts);
         if allowed < counts {
-            return Ok(Some(row.first));
+            let (first, _) = nodes.leaves_of(NodeId(n));
+            return Ok(Some(first));
         }
         allowed -= counts;
-        match first_high(row.parts.as_slice(), heights.as_slice(), allowed) {
+        match first_high(parts, heights.as_slice(), allowed) {
             Some(next) => n = next,
             None => return Ok(None),
         }

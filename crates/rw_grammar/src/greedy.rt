@@ -1,13 +1,12 @@
 // The tree of the one greedy derivation of a list of leaves.
 ghost use Rattle.std.specs.Prelude.{◌≡◌, ℕ, ◌<◌, length, IfOk};
-ghost use Rattle.rw_grammar.specs.Parts.{rule_of};
-ghost use Rattle.rw_grammar.specs.Viability.{StopsAt};
-ghost use Rattle.rw_grammar.specs.Results.{AreTreeLeaves, IsDerived, IsTooDeep, class_in, all_of};
+ghost use Rattle.rw_base.specs.Arena.{IsTree};
+ghost use Rattle.rw_grammar.specs.Results.{AreTreeLeaves, IsDerived, IsTooDeep, Stops, tree_of};
 
 use crate::depth::first_too_deep;
 use crate::machine::{Halt, Known, run};
 use crate::table::Table;
-use rw_base::{Leaf, NoMemory, NodeId, Tree};
+use rw_base::{Leaf, NoMemory, NodeId, Nodes, Tree};
 use std::alloc::Global;
 
 /// Why there is no tree. `Stop`: no derivation goes past this leaf, or with the number of leaves, past the last one.
@@ -30,6 +29,39 @@ impl From<NoMemory> for DeriveFault {
     }
 }
 
+/// The nodes of the tree that a rule of the table derives from the leaves, of which the last is the end. The root is the
+/// last node.
+pub fn derive_nodes(
+    alloc: Global,
+    table: &Table,
+    start: u16,
+    leaves: &[Leaf],
+) -> Result<Nodes, DeriveFault>
+    requires start { start < length table.now }
+    requires leaves { AreTreeLeaves leaves.now }
+    ensures derived { IfOk result (λ nodes. IsDerived table.now start leaves.now (tree_of leaves.now nodes)) }
+    ensures tree { IfOk result (λ nodes. IsTree (tree_of leaves.now nodes)) }
+    ensures stop { (leaf : ℕ) → result ≡ Err (DeriveFault.Stop leaf) → Stops table.now start leaves.now leaf }
+    ensures too_deep { (leaf : ℕ) → result ≡ Err (DeriveFault.TooDeep leaf)
+        → IsTooDeep table.now start leaves.now leaf }
+{
+    let known = Known {
+        cells: table.cells.as_slice(),
+        roots: table.roots.as_slice(),
+        empty: table.empty.as_slice(),
+        columns: table.columns.as_slice(),
+    };
+    let nodes = match run(alloc, known, start, leaves) {
+        Ok(nodes) => nodes,
+        Err(Halt::Stop(leaf)) => return Err(DeriveFault::Stop { leaf }),
+        Err(Halt::NoMemory) => return Err(DeriveFault::NoMemory),
+    };
+    match first_too_deep(alloc, &nodes)? {
+        Some(leaf) => Err(DeriveFault::TooDeep { leaf }),
+        None => Ok(nodes),
+    }
+}
+
 /// The tree that a rule of the table derives from the leaves, of which the last is the end.
 pub fn derive(
     alloc: Global,
@@ -40,23 +72,15 @@ pub fn derive(
     requires start { start < length table.now }
     requires leaves { AreTreeLeaves leaves.items }
     ensures tree { IfOk result (λ t. IsDerived table.now start leaves.items t) }
-    ensures stop { (leaf : ℕ) → result ≡ Err (DeriveFault.Stop leaf) → StopsAt (rule_of table.now) (class_in leaves.items) (rule_of table.now start) (all_of leaves.items) leaf }
-    ensures too_deep { (leaf : ℕ) → result ≡ Err (DeriveFault.TooDeep leaf) → IsTooDeep table.now start leaves.items leaf }
+    ensures stop { (leaf : ℕ) → result ≡ Err (DeriveFault.Stop leaf) → Stops table.now start leaves.items leaf }
+    ensures too_deep { (leaf : ℕ) → result ≡ Err (DeriveFault.TooDeep leaf)
+        → IsTooDeep table.now start leaves.items leaf }
 {
-    let known = Known {
-        cells: table.cells.as_slice(),
-        roots: table.roots.as_slice(),
-        empty: table.empty.as_slice(),
-        columns: table.columns.as_slice(),
-    };
-    let rows = match run(alloc, known, start, leaves.as_slice()) {
-        Ok(rows) => rows,
-        Err(Halt::Stop(leaf)) => return Err(DeriveFault::Stop { leaf }),
-        Err(Halt::NoMemory) => return Err(DeriveFault::NoMemory),
-    };
-    if let Some(leaf) = first_too_deep(alloc, rows.as_slice())? {
-        return Err(DeriveFault::TooDeep { leaf });
+    match derive_nodes(alloc, table, start, leaves.as_slice()) {
+        Ok(nodes) => {
+            let root = NodeId(nodes.len() - 1);
+            Ok(Tree::of_nodes(leaves, nodes, root))
+        }
+        Err(fault) => Err(fault),
     }
-    let root = NodeId((rows.len() - 1) as u32);
-    Ok(Tree::made(leaves, rows, root))
 }

@@ -1,20 +1,20 @@
 // The machine that derives.
 ghost use Rattle.std.specs.Prelude.{◌≡◌, ℕ, true, false, ◌<◌, ◌≤◌, ◌^◌, ◌+◌, [], ◌∷◌, ◌++◌, List, length, IfOk, OnOk, take, drop, Option, Some, None};
+ghost use Rattle.rw_base.specs.Arena.{row_of};
 ghost use Rattle.rw_grammar.specs.Parts.{rule_of};
 ghost use Rattle.rw_grammar.specs.Cells.{IsTable, shape_at, rules_at, column_for, picked};
 ghost use Rattle.rw_grammar.specs.Machine.{Does, is_node};
 ghost use Rattle.rw_grammar.specs.Faults.{IsFine};
-ghost use Rattle.rw_grammar.specs.Viability.{StopsAt};
-ghost use Rattle.rw_grammar.specs.Results.{AreRowsOf, class_in, all_of, class_next};
+ghost use Rattle.rw_grammar.specs.Results.{AreRowsOf, Stops, class_next};
 
 use crate::cells::Cell;
 use crate::known::{first_set, is_set};
-use rw_base::{Leaf, Mem, NoMemory, NodeId, NodeRow, Part};
+use rw_base::{Leaf, Mem, NoMemory, NodeId, Nodes, Part};
 use sqlite_items::{Items, at};
 use std::alloc::Global;
 
-/// A task that was put off: to derive what a cell stands for; or to close a rule's node, over the parts from a position
-/// on and the leaves from a number on.
+/// A task that was put off: to derive what a cell stands for; or to close a rule's node, over the parts from a place on
+/// and the leaves from a number on.
 #[derive(Clone, Copy)]
 pub(crate) enum Task {
     Derive(u32),
@@ -101,8 +101,11 @@ fn step(
 ) -> Mem<Moved>
     requires table { IsTable known.cells.now known.roots.now known.empty.now known.columns.now }
     requires current { current < length known.cells.now }
-    requires fine { IsFine (rule_of (rules_at known.cells.now known.roots.now)) (length known.roots.now) (shape_at known.cells.now current) }
-    ensures { IfOk result (λ to. Does (rule_of (rules_at known.entry.cells.now known.entry.roots.now)) (shape_at known.entry.cells.now) (length known.entry.cells.now) class current leaf place tasks.old.items tasks.new.items to) }
+    requires fine { let rules = rules_at known.cells.now known.roots.now in
+        IsFine (rule_of rules) (length known.roots.now) (shape_at known.cells.now current) }
+    ensures { let cells = known.entry.cells.now in let rules = rules_at cells known.entry.roots.now in
+        IfOk result (λ to. Does (rule_of rules) (shape_at cells) (length cells) class current leaf place
+        tasks.old.items tasks.new.items to) }
 {
     match &known.cells[current as usize] {
         Cell::End => Ok(Moved::Ended),
@@ -175,54 +178,47 @@ fn is_one_node(parts: &[Part]) -> bool
 
 /// Closes a rule's node over the parts from a position on, unless they are a node.
 fn close(
-    alloc: Global,
     rule: u16,
     place: usize,
     leaves: (u32, u32),
     parts: &mut Vec<Part>,
-    rows: &mut Vec<NodeRow>,
+    nodes: &mut Nodes,
 ) -> Mem<()>
-    requires place { place ≤ length parts.old.items }
-    requires few { length rows.old.items < 2 ^ 32 }
-    ensures few { OnOk result (length rows.new.items < 2 ^ 32) }
-    ensures alone { OnOk result (is_node (drop place parts.old.items) ≡ true → (parts.new.items ≡ parts.old.items) × (rows.new.items ≡ rows.old.items)) }
-    ensures parts { OnOk result (is_node (drop place parts.old.items) ≡ false → parts.new.items ≡ take place parts.old.items ++ Part.Node (record { 0 = length rows.old.items }) ∷ []) }
-    ensures row { OnOk result (is_node (drop place parts.old.items) ≡ false → rows.new.items ≡ rows.old.items ++ record { kind = rule; first = leaves.0; past = leaves.1; parts = drop place parts.old.items } ∷ []) }
+    requires { place ≤ length parts.old.items }
+    ensures alone { OnOk result (is_node (drop place parts.old.items) ≡ true
+        → (parts.new.items ≡ parts.old.items) × (nodes.new ≡ nodes.old)) }
+    ensures parts { OnOk result (is_node (drop place parts.old.items) ≡ false
+        → parts.new.items ≡ take place parts.old.items ++ Part.Node (record { 0 = length nodes.old }) ∷ []) }
+    ensures row { OnOk result (is_node (drop place parts.old.items) ≡ false
+        → nodes.new ≡ nodes.old ++ row_of rule leaves.0 leaves.1 (drop place parts.old.items) ∷ []) }
 {
-    if is_one_node(&parts[place..]) {
+    let own = &parts[place..];
+    if is_one_node(own) {
         return Ok(());
     }
-    if rows.len() >= u32::MAX as usize {
-        return Err(NoMemory);
-    }
-    let own = Items::from_slice(alloc, &parts[place..])?;
-    let n = rows.len() as u32;
-    rows.push(NodeRow {
-        kind: rule,
-        first: leaves.0,
-        past: leaves.1,
-        parts: own,
-    })?;
+    let n = nodes.len();
+    nodes.push(rule, leaves.0, leaves.1, own)?;
     parts.truncate(place);
     parts.push(Part::Node(NodeId(n)))?;
     Ok(())
 }
 
-/// The rows of the tree that a rule derives from all of the leaves.
+/// The nodes of the tree that a rule derives from all of the leaves.
 pub(crate) fn run(
     alloc: Global,
     known: Known<'_>,
     start: u16,
     leaves: &[Leaf],
-) -> Result<Vec<NodeRow>, Halt>
+) -> Result<Nodes, Halt>
     requires table { IsTable known.cells.now known.roots.now known.empty.now known.columns.now }
     requires start { start < length known.roots.now }
     requires few { length leaves.now < 2 ^ 32 }
-    ensures rows { IfOk result (λ rows. AreRowsOf (rules_at known.entry.cells.now known.entry.roots.now) start leaves.now rows.items) }
-    ensures few { IfOk result (λ rows. length rows.items < 2 ^ 32) }
-    ensures stop { (at : ℕ) → result ≡ Err (Halt.Stop at) → StopsAt (rule_of (rules_at known.entry.cells.now known.entry.roots.now)) (class_in leaves.now) (rule_of (rules_at known.entry.cells.now known.entry.roots.now) start) (all_of leaves.now) at }
+    ensures rows { IfOk result (λ nodes. AreRowsOf (rules_at known.entry.cells.now known.entry.roots.now)
+        start leaves.now nodes) }
+    ensures stop { (at : ℕ) → result ≡ Err (Halt.Stop at)
+        → Stops (rules_at known.entry.cells.now known.entry.roots.now) start leaves.now at }
 {
-    let mut rows = Vec::new(alloc);
+    let mut nodes = Nodes::new(alloc);
     let mut parts = Vec::new(alloc);
     let mut tasks = Vec::new(alloc);
     keep(&mut tasks, Task::Close(start, 0, 0))?;
@@ -247,7 +243,7 @@ pub(crate) fn run(
         }
         let Some(task) = tasks.pop() else {
             if leaf as usize == leaves.len() {
-                return Ok(rows);
+                return Ok(nodes);
             }
             return Err(Halt::Stop(leaf));
         };
@@ -257,14 +253,7 @@ pub(crate) fn run(
                 continue;
             }
             Task::Close(rule, place, first) => {
-                close(
-                    alloc,
-                    rule,
-                    place as usize,
-                    (first, leaf),
-                    &mut parts,
-                    &mut rows,
-                )?;
+                close(rule, place as usize, (first, leaf), &mut parts, &mut nodes)?;
                 continue;
             }
         }

@@ -1,4 +1,4 @@
-use Rattle.std.proofs.Common.{◌<◌, ◌^◌, length}
+use Rattle.std.proofs.Common.{◌<◌, length}
 use Rattle.rw_grammar.specs.Parts.{rule_of}
 use Rattle.rw_grammar.specs.Cells.{shape_at, rules_at}
 use Rattle.rw_grammar.specs.Machine.{Standing}
@@ -11,6 +11,5 @@ invariant-loop l =
     let roots = l.fn.known.roots.now in
     record {
       inside : l.current < length cells;
-      few : length l.rows.items < 2 ^ 32;
-      stands : Standing (rule_of (rules_at cells roots)) (class_in l.leaves) l.fn.start (length roots) (length cells) (shape_at cells) (all_of l.leaves) l.leaf (shape_at cells l.current) l.tasks.items l.parts.items l.rows.items;
+      stands : Standing (rule_of (rules_at cells roots)) (class_in l.leaves) l.fn.start (length roots) (length cells) (shape_at cells) (all_of l.leaves) l.leaf (shape_at cells l.current) l.tasks.items l.parts.items l.nodes;
     }
