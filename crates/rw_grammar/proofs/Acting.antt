@@ -12,7 +12,7 @@ use Rattle.rw_grammar.specs.Begins.{CanBeEmpty}
 use Rattle.rw_grammar.specs.Faults.{IsFine}
 use Rattle.rw_grammar.specs.Cells.{any_of, grown, shape_at, rules_at, cell_at, AllBelow, NamesBelow, bit, IsTable, column_for, picked, or_else}
 use Rattle.rw_grammar.specs.Machine.{Begins, Picks, Acts, Does}
-use Rattle.rw_grammar.proofs.Unique.{sound_fine}
+use Rattle.rw_grammar.specs.TreeLaws.{sound_fine}
 use Rattle.rw_grammar.proofs.CellLaws.{shape_is, names_inside, alternative, found, rule_is, rule_count}
 
 module _ (cells : List Cell) (roots : List ℕ) (empty : List Bool) (columns : List (List Bool)) (table : IsTable cells roots empty columns) where

@@ -1,4 +1,3 @@
-pub mod Unique
 pub mod Steps
 pub mod Runs
 pub mod CellLaws
@@ -12,3 +11,5 @@ pub mod DepthLaws
 pub mod ClosedLaws
 pub mod CodeLaws
 pub mod Spelling
+pub mod Cutting
+pub mod Outcomes

@@ -17,7 +17,7 @@ use Rattle.rw_grammar.specs.Derivation.{wrapped, Derives, by-end, by-one, by-rul
 use Rattle.rw_grammar.specs.Viability.{Viable, so-far, past-one, past-rule, past-choice, past-empty, past-opt, no-opt, past-more, no-more, StopsAt}
 use Rattle.rw_grammar.specs.Faults.{IsFine}
 use Rattle.rw_grammar.specs.Machine.{Todo, derive, close, Comes, Goes_on, Meets, Kept, Begins, Picks, Acts, ends, takes, differs, opens, chooses, begins-none, takes-option, leaves-option, repeats, goes-on, outer, Matches, AllFine, backwards, Standing, is_node}
-use Rattle.rw_grammar.proofs.Unique.{fine_at}
+use Rattle.rw_grammar.specs.TreeLaws.{fine_at}
 use Rattle.rw_grammar.proofs.Steps.{Same, Takes, Stuck, class_of, goes_begins, begins_goes, rule_same, opt_same, no_opt_same, more_same, no_more_same, pick_same, end_same, one_takes, one_stuck, choice_stuck, goes_nowhere}
 
 past_next : (at : ℕ) (ls : List ℕ) (l : ℕ) (more : List ℕ) → drop at ls ≡ l ∷ more → (drop (suc at) ls ≡ more) × (take (suc at) ls ≡ take at ls ++ l ∷ []) × (at < length ls)

@@ -9,7 +9,7 @@ use Rattle.rw_grammar.specs.Derivation.{wrapped, Derives, by-end, by-one, by-rul
 use Rattle.rw_grammar.specs.Viability.{Viable, so-far, past-one, in-rule, past-rule, in-choice, past-choice, in-empty, past-empty, in-opt, past-opt, no-opt, in-more, past-more, no-more}
 use Rattle.rw_grammar.specs.Faults.{AreApart}
 use Rattle.rw_grammar.specs.Machine.{Todo, derive, close, Comes, Goes_on, Meets, Begins, Picks}
-use Rattle.rw_grammar.proofs.Unique.{same_begun, same_empty}
+use Rattle.rw_grammar.specs.TreeLaws.{same_begun, same_empty}
 
 module _ (rules : ℕ → Parts) (class : ℕ → ℕ) where
   -- the same comes of both, and leaves go as far

@@ -6,7 +6,8 @@ use Rattle.rw_grammar.specs.Parts.{Parts, end, one, rule, choice, opt, many, IsA
 pub data CanBeEmpty (rules : ℕ → Parts) : Parts → Type 0 where
   empty-end : CanBeEmpty rules end
   empty-rule : {r : ℕ} {a : Parts} → CanBeEmpty rules (rules r) → CanBeEmpty rules a → CanBeEmpty rules (rule r a)
-  empty-choice : {i : ℕ} {x y a : Parts} → IsAt i y x → CanBeEmpty rules y → CanBeEmpty rules a → CanBeEmpty rules (choice x a)
+  empty-choice : {i : ℕ} {x y a : Parts} → IsAt i y x → CanBeEmpty rules y → CanBeEmpty rules a
+      → CanBeEmpty rules (choice x a)
   empty-opt : {x a : Parts} → CanBeEmpty rules a → CanBeEmpty rules (opt x a)
   empty-many : {x a : Parts} → CanBeEmpty rules a → CanBeEmpty rules (many x a)
 
@@ -22,7 +23,8 @@ pub data CanStart (rules : ℕ → Parts) (s : Front) : Parts → Type 0 where
   from-rule : {r : ℕ} {a : Parts} → CanStart rules s (rules r) → CanStart rules s (rule r a)
   after-rule : {r : ℕ} {a : Parts} → CanBeEmpty rules (rules r) → CanStart rules s a → CanStart rules s (rule r a)
   from-choice : {i : ℕ} {x y a : Parts} → IsAt i y x → CanStart rules s y → CanStart rules s (choice x a)
-  after-choice : {i : ℕ} {x y a : Parts} → IsAt i y x → CanBeEmpty rules y → CanStart rules s a → CanStart rules s (choice x a)
+  after-choice : {i : ℕ} {x y a : Parts} → IsAt i y x → CanBeEmpty rules y → CanStart rules s a
+      → CanStart rules s (choice x a)
   from-opt : {x a : Parts} → CanStart rules s x → CanStart rules s (opt x a)
   after-opt : {x a : Parts} → CanStart rules s a → CanStart rules s (opt x a)
   from-many : {x a : Parts} → CanStart rules s x → CanStart rules s (many x a)

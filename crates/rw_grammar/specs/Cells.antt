@@ -1,5 +1,6 @@
 -- The cells of a table, and what each stands for.
-use Rattle.std.specs.Prelude.{◌≡◌, ℕ, ◌<◌, ◌↔◌, ◌==◌, ◌&&◌, ◌||◌, Bool, true, false, List, [], ◌∷◌, ◌++◌, length, map, slice_get, slice_index_or, slice_index, Option, Some, None, find, nat_le, count_by}
+use Rattle.std.specs.Prelude.{◌≡◌, ℕ, ◌<◌, ◌↔◌, ◌==◌, ◌&&◌, ◌||◌, Bool, true, false, List, [], ◌∷◌, ◌++◌, length, map}
+use Rattle.std.specs.Prelude.{slice_get, slice_index_or, slice_index, Option, Some, None, find, nat_le, count_by}
 use Rattle.std.specs.Option.{option_map_or}
 use Rattle.std.specs.List.{list_any}
 use Rattle.rw_base.specs.Rows.{value}
@@ -93,7 +94,8 @@ is_rule _ d = false
 abbrev pub starts_by : List ℕ → List Bool → Asked → List Bool → Cell → Bool
 starts_by roots empty a known cell.End = false
 starts_by roots empty a known (cell.One c k) = is_class a c
-starts_by roots empty a known (cell.Rule r k) = is_rule a r || root_at roots r (bit known) || (root_at roots r (bit empty) && bit known k)
+starts_by roots empty a known (cell.Rule r k) =
+    is_rule a r || root_at roots r (bit known) || (root_at roots r (bit empty) && bit known k)
 starts_by roots empty a known (cell.Choice ys k) = list_any (bit known) ys || (list_any (bit empty) ys && bit known k)
 starts_by roots empty a known (cell.Opt x k) = bit known x || bit known k
 starts_by roots empty a known (cell.Many x k) = bit known x || bit known k
@@ -108,7 +110,8 @@ AreRight cells rules a known = (n : ℕ) → n < length cells → bit known n �
 
 -- and what follows from them is set
 abbrev pub AreClosed : List Cell → List ℕ → List Bool → Asked → List Bool → Type 0
-AreClosed cells roots empty a known = (n : ℕ) → n < length cells → told_by roots empty a known (cell_at cells n) ≡ true → bit known n ≡ true
+AreClosed cells roots empty a known =
+    (n : ℕ) → n < length cells → told_by roots empty a known (cell_at cells n) ≡ true → bit known n ≡ true
 
 -- where something is asked of the front, it is known what can be empty
 abbrev pub EmptyTold : List Cell → (ℕ → Parts) → Asked → List Bool → Type 0
@@ -123,7 +126,8 @@ wrong_by number count empty columns cell.End = false
 wrong_by number count empty columns (cell.One c k) = false
 wrong_by number count empty columns (cell.Rule r k) = number == 5 && nat_le count r
 wrong_by number count empty columns (cell.Choice ys k) =
-    (number == 1 && list_any (λ column. nat_le 2 (count_by (bit column) ys)) columns) || (number == 2 && nat_le 2 (count_by (bit empty) ys))
+    (number == 1 && list_any (λ column. nat_le 2 (count_by (bit column) ys)) columns)
+    || (number == 2 && nat_le 2 (count_by (bit empty) ys))
 wrong_by number count empty columns (cell.Opt x k) = number == 3 && bit empty x
 wrong_by number count empty columns (cell.Many x k) = number == 3 && bit empty x
 

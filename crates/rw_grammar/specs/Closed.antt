@@ -1,5 +1,6 @@
 -- A test that computes: what is written out for each rule shows that a table has no fault.
-use Rattle.std.specs.Prelude.{◌≡◌, ℕ, zero, suc, Bool, true, false, not, ◌&&◌, ◌||◌, nat_eq, nat_lt, List, [], ◌∷◌, ◌++◌, length}
+use Rattle.std.specs.Prelude.{◌≡◌, ℕ, zero, suc, Bool, true, false, not, ◌&&◌, ◌||◌, nat_eq, nat_lt, List, [], ◌∷◌}
+use Rattle.std.specs.Prelude.{◌++◌, length}
 use Rattle.rw_grammar.specs.Parts.{Parts, end, one, rule, choice, opt, many, or}
 use Rattle.rw_grammar.specs.Faults.{IsSound}
 

@@ -1,5 +1,5 @@
--- The codes that spell shapes: a leaf of a class is 0 and the class, a rule is 1 and its number, a row is 2, the number of
--- its parts and the parts, a choice is 3 and the same, an option is 4 and its part, a repetition is 5 and its part.
+-- The codes that spell shapes: a leaf of a class is 0 and the class, a rule is 1 and its number, a row is 2, the number
+-- of its parts and the parts, a choice is 3 and the same, an option is 4 and its part, a repetition is 5 and its part.
 use Rattle.std.specs.Prelude.{ℕ, zero, suc, ◌+◌, Bool, true, false, List, [], ◌∷◌, length, map, take, drop}
 use Rattle.std.specs.List.{concat}
 use Rattle.rw_grammar.specs.declared.shape.Shape.{Shape, fold-Shape}

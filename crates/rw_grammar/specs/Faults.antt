@@ -6,9 +6,11 @@ use Rattle.rw_grammar.specs.Begins.{CanBeEmpty, CanBegin, IsLeftRecursive}
 -- what is wrong with the first of these shapes, by the number of the fault
 pub data IsWrong (rules : ℕ → Parts) (count : ℕ) : ℕ → Parts → Type 0 where
   -- two alternatives share a first class
-  shares : {i j c : ℕ} {x y z a : Parts} → IsAt i y x → IsAt j z x → (i ≡ j → ⊥) → CanBegin rules c y → CanBegin rules c z → IsWrong rules count 1 (choice x a)
+  shares : {i j c : ℕ} {x y z a : Parts} → IsAt i y x → IsAt j z x → (i ≡ j → ⊥) → CanBegin rules c y
+      → CanBegin rules c z → IsWrong rules count 1 (choice x a)
   -- two alternatives can be empty
-  empties : {i j : ℕ} {x y z a : Parts} → IsAt i y x → IsAt j z x → (i ≡ j → ⊥) → CanBeEmpty rules y → CanBeEmpty rules z → IsWrong rules count 2 (choice x a)
+  empties : {i j : ℕ} {x y z a : Parts} → IsAt i y x → IsAt j z x → (i ≡ j → ⊥) → CanBeEmpty rules y
+      → CanBeEmpty rules z → IsWrong rules count 2 (choice x a)
   -- a repeated or optional part can be empty
   empty-option : {x a : Parts} → CanBeEmpty rules x → IsWrong rules count 3 (opt x a)
   empty-repeat : {x a : Parts} → CanBeEmpty rules x → IsWrong rules count 3 (many x a)
@@ -33,7 +35,8 @@ pub record IsLeastFault (rules : List Parts) (number r : ℕ) : Type 0 where
 
 -- The leaf that follows begins one alternative at most, and at most one is empty.
 pub record AreApart (rules : ℕ → Parts) (x : Parts) : Type 0 where
-  pub begin : (i j : ℕ) (y z : Parts) (c : ℕ) → IsAt i y x → IsAt j z x → CanBegin rules c y → CanBegin rules c z → i ≡ j
+  pub begin : (i j : ℕ) (y z : Parts) (c : ℕ) → IsAt i y x → IsAt j z x → CanBegin rules c y → CanBegin rules c z
+      → i ≡ j
   pub empty : (i j : ℕ) (y z : Parts) → IsAt i y x → IsAt j z x → CanBeEmpty rules y → CanBeEmpty rules z → i ≡ j
 
 -- Of these shapes all alternatives are apart, and each rule is there.

@@ -13,4 +13,8 @@ pub mod Cells
 pub mod Machine
 pub mod Depth
 pub mod Results
+pub mod TreeLaws
 pub mod StopLaws
+pub mod Reading
+pub mod Refusals
+pub mod ReadingLaws

@@ -50,20 +50,32 @@ first_of (p ∷ ps) = p
 
 pub read_tokens : (p : Parts) (ts : List Token) (ps : List Parts) → read (tokens p ++ ts) ps ≡ read ts (p ∷ ps)
 read_tokens end ts ps = refl
-read_tokens (one c a) ts ps = ap (λ us. read us ps) (append_assoc (tokens a) ((1, c) ∷ []) ts) ∙ read_tokens a ((1, c) ∷ ts) ps
-read_tokens (rule r a) ts ps = ap (λ us. read us ps) (append_assoc (tokens a) ((2, r) ∷ []) ts) ∙ read_tokens a ((2, r) ∷ ts) ps
+read_tokens (one c a) ts ps =
+    ap (λ us. read us ps) (append_assoc (tokens a) ((1, c) ∷ []) ts) ∙ read_tokens a ((1, c) ∷ ts) ps
+read_tokens (rule r a) ts ps =
+    ap (λ us. read us ps) (append_assoc (tokens a) ((2, r) ∷ []) ts) ∙ read_tokens a ((2, r) ∷ ts) ps
 read_tokens (choice x a) ts ps =
-    ap (λ us. read us ps) (append_assoc (tokens x) (tokens a ++ (3, 0) ∷ []) ts ∙ ap (λ us. tokens x ++ us) (append_assoc (tokens a) ((3, 0) ∷ []) ts))
+    ap (λ us. read us ps)
+    (append_assoc (tokens x) (tokens a ++ (3, 0) ∷ []) ts
+    ∙ ap (λ us. tokens x ++ us) (append_assoc (tokens a) ((3, 0) ∷ []) ts))
     ∙ (read_tokens x (tokens a ++ (3, 0) ∷ ts) ps ∙ read_tokens a ((3, 0) ∷ ts) (x ∷ ps))
 read_tokens (opt x a) ts ps =
-    ap (λ us. read us ps) (append_assoc (tokens x) (tokens a ++ (4, 0) ∷ []) ts ∙ ap (λ us. tokens x ++ us) (append_assoc (tokens a) ((4, 0) ∷ []) ts))
+    ap (λ us. read us ps)
+    (append_assoc (tokens x) (tokens a ++ (4, 0) ∷ []) ts
+    ∙ ap (λ us. tokens x ++ us) (append_assoc (tokens a) ((4, 0) ∷ []) ts))
     ∙ (read_tokens x (tokens a ++ (4, 0) ∷ ts) ps ∙ read_tokens a ((4, 0) ∷ ts) (x ∷ ps))
 read_tokens (many x a) ts ps =
-    ap (λ us. read us ps) (append_assoc (tokens x) (tokens a ++ (5, 0) ∷ []) ts ∙ ap (λ us. tokens x ++ us) (append_assoc (tokens a) ((5, 0) ∷ []) ts))
+    ap (λ us. read us ps)
+    (append_assoc (tokens x) (tokens a ++ (5, 0) ∷ []) ts
+    ∙ ap (λ us. tokens x ++ us) (append_assoc (tokens a) ((5, 0) ∷ []) ts))
     ∙ (read_tokens x (tokens a ++ (5, 0) ∷ ts) ps ∙ read_tokens a ((5, 0) ∷ ts) (x ∷ ps))
 read_tokens (or x a) ts ps =
-    ap (λ us. read us ps) (append_assoc (tokens x) (tokens a ++ (6, 0) ∷ []) ts ∙ ap (λ us. tokens x ++ us) (append_assoc (tokens a) ((6, 0) ∷ []) ts))
+    ap (λ us. read us ps)
+    (append_assoc (tokens x) (tokens a ++ (6, 0) ∷ []) ts
+    ∙ ap (λ us. tokens x ++ us) (append_assoc (tokens a) ((6, 0) ∷ []) ts))
     ∙ (read_tokens x (tokens a ++ (6, 0) ∷ ts) ps ∙ read_tokens a ((6, 0) ∷ ts) (x ∷ ps))
 
 abbrev pub parts_code : Coded Parts
-parts_code = code_by (List Token) (coded_list (coded× coded_ℕ coded_ℕ)) tokens (λ ts. first_of (read ts [])) (λ p. ap (λ us. first_of (read us [])) (sym (append-nil (tokens p))) ∙ ap first_of (read_tokens p [] []))
+parts_code =
+    code_by (List Token) (coded_list (coded× coded_ℕ coded_ℕ)) tokens (λ ts. first_of (read ts []))
+    (λ p. ap (λ us. first_of (read us [])) (sym (append-nil (tokens p))) ∙ ap first_of (read_tokens p [] []))

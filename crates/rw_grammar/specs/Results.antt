@@ -36,6 +36,10 @@ abbrev pub IsTreeOf : List Parts → ℕ → List Leaf → ℕ → Forest → Ty
 IsTreeOf rules start leaves kind kids =
     DerivesTree (rule_of rules) (class_in leaves) start (all_of leaves) (node tt kind kids none)
 
+-- the rule derives a tree from the leaves, of whatever depth
+abbrev pub IsDerivable : List Parts → ℕ → List Leaf → Type 0
+IsDerivable rules start leaves = (kind : ℕ) × (kids : Forest) × IsTreeOf rules start leaves kind kids
+
 -- no derivation by the rule goes past this leaf
 abbrev pub Stops : List Parts → ℕ → List Leaf → ℕ → Type 0
 Stops rules start leaves i = StopsAt (rule_of rules) (class_in leaves) (rule_of rules start) (all_of leaves) i

@@ -40,7 +40,8 @@ fn lay(alloc: Global, shape: &Shape, next: u32, cells: &mut Vec<Cell>) -> Mem<u3
     requires next { next < length cells.old.items }
     requires cells { AreCells cells.old.items }
     requires end { shape_at cells.old.items 0 ≡ end }
-    ensures { IfOk result (λ n. Lays cells.old.items cells.new.items n (before shape.now (shape_at cells.old.items next))) }
+    ensures { let shapes = before shape.now (shape_at cells.old.items next) in
+        IfOk result (λ n. Lays cells.old.items cells.new.items n shapes) }
 {
     match shape {
         Shape::Leaf(class) => add(cells, Cell::One(*class, next)),

@@ -99,7 +99,7 @@ pub fn shapes(alloc: Global, codes: &[u16]) -> Mem<Items<Shape>>
     requires { spells_rules codes.now ≡ true }
     ensures spelled { IfOk result (λ rules. codes.now ≡ spelled rules) }
     ensures parts { IfOk result (λ rules. all_parts rules ≡ parts_spelled codes.now) }
-    ensures few { IfOk result (λ rules. length rules ≤ 65535) }
+    ensures few { IfOk result (λ rules. length rules ≤ u16.MAX) }
 {
     let words = words_of(alloc, &codes[1..])?;
     let mut stack = stacked(alloc, words)?;

@@ -84,7 +84,9 @@ fn marked(
     columns: &[Items<bool>],
 ) -> Mem<Vec<bool>>
     requires { AreKnown cells.now roots.now empty.now columns.now }
-    ensures { IfOk result (λ marks. Tells cells.now (Somewhere (rule_of (rules_at cells.now roots.now)) (length roots.now) number) marks.items) }
+    ensures { let rules = rules_at cells.now roots.now in
+        let marked = Somewhere (rule_of rules) (length roots.now) number in
+        IfOk result (λ marks. Tells cells.now marked marks.items) }
 {
     let mut marks = Vec::with_capacity(alloc, cells.len())?;
     for cell in cells {
@@ -122,7 +124,8 @@ pub(crate) fn least_fault(
     requires few { length roots.now ≤ u16.MAX + 1 }
     requires known { AreKnown cells.now roots.now empty.now columns.now }
     ensures none { result ≡ Ok None → IsSound (rules_at cells.now roots.now) }
-    ensures some { (number rule : ℕ) → result ≡ Ok (Some (number, rule)) → IsLeastFault (rules_at cells.now roots.now) number rule }
+    ensures some { (number rule : ℕ) → result ≡ Ok (Some (number, rule))
+        → IsLeastFault (rules_at cells.now roots.now) number rule }
 {
     let shared = marked(alloc, 1, cells, roots, empty, columns)?;
     let empties = marked(alloc, 2, cells, roots, empty, columns)?;

@@ -29,8 +29,8 @@ impl From<NoMemory> for DeriveFault {
     }
 }
 
-/// The nodes of the tree that a rule of the table derives from the leaves, of which the last is the end. The root is the
-/// last node.
+/// The nodes of the tree that a rule of the table derives from the leaves, of which the last is the end. The last node
+/// is the root.
 pub fn derive_nodes(
     alloc: Global,
     table: &Table,

@@ -3,7 +3,8 @@ ghost use Rattle.std.specs.Prelude.{◌≡◌, ◌<◌, ◌≤◌, ◌==◌, len
 ghost use Rattle.std.specs.Bool.{OnFalse};
 ghost use Rattle.std.specs.List.{list_any};
 ghost use Rattle.rw_grammar.specs.Parts.{rule_of};
-ghost use Rattle.rw_grammar.specs.Cells.{bit, root_at, empty_by, starts_by, told_by, is_class, is_rule, AreLaid, AreRight, AreClosed, EmptyTold, Tells, Holds, rules_at};
+ghost use Rattle.rw_grammar.specs.Cells.{bit, root_at, empty_by, starts_by, told_by, is_class, is_rule, AreLaid};
+ghost use Rattle.rw_grammar.specs.Cells.{AreRight, AreClosed, EmptyTold, Tells, Holds, rules_at};
 
 use crate::cells::Cell;
 use rw_base::{Mem, NoMemory};
@@ -162,7 +163,8 @@ pub(crate) fn settled(
 ) -> Mem<Vec<bool>>
     requires laid { AreLaid cells.now roots.now }
     requires empties { EmptyTold cells.now (rule_of (rules_at cells.now roots.now)) asked empty.now }
-    ensures { IfOk result (λ known. Tells cells.now (Holds (rule_of (rules_at cells.now roots.now)) asked) known.items) }
+    ensures { let rules = rules_at cells.now roots.now in
+        IfOk result (λ known. Tells cells.now (Holds (rule_of rules) asked) known.items) }
 {
     let mut known = vec![in alloc; false; cells.len()]?;
     for _ in 0..u64::MAX {

@@ -1,5 +1,6 @@
 // The machine that derives.
-ghost use Rattle.std.specs.Prelude.{◌≡◌, ℕ, true, false, ◌<◌, ◌≤◌, ◌^◌, ◌+◌, [], ◌∷◌, ◌++◌, List, length, IfOk, OnOk, take, drop, Option, Some, None};
+ghost use Rattle.std.specs.Prelude.{◌≡◌, ℕ, true, false, ◌<◌, ◌≤◌, ◌^◌, ◌+◌, [], ◌∷◌, ◌++◌, List, length, IfOk, OnOk};
+ghost use Rattle.std.specs.Prelude.{take, drop, Option, Some, None};
 ghost use Rattle.rw_base.specs.Arena.{row_of};
 ghost use Rattle.rw_grammar.specs.Parts.{rule_of};
 ghost use Rattle.rw_grammar.specs.Cells.{IsTable, shape_at, rules_at, column_for, picked};

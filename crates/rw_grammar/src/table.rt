@@ -67,7 +67,8 @@ impl From<NoMemory> for TableFault {
 fn columns_of(alloc: Global, cells: &[Cell], roots: &[u32], empty: &[bool]) -> Mem<Vec<Items<bool>>>
     requires laid { AreLaid cells.now roots.now }
     requires empties { Tells cells.now (CanBeEmpty (rule_of (rules_at cells.now roots.now))) empty.now }
-    ensures { IfOk result (λ columns. (c : ℕ) → Tells cells.now (CanBegin (rule_of (rules_at cells.now roots.now)) c) (column_at columns.items c)) }
+    ensures { let rules = rules_at cells.now roots.now in
+        IfOk result (λ columns. (c : ℕ) → Tells cells.now (CanBegin (rule_of rules) c) (column_at columns.items c)) }
 {
     let mut columns = Vec::new(alloc);
     let count = class_count(cells);
@@ -84,7 +85,8 @@ impl Table {
         requires { length rules ≤ MOST_RULES }
         ensures rules { IfOk result (λ t. t ≡ all_parts rules) }
         ensures sound { IfOk result (λ t. IsSound t) }
-        ensures wrong { (number rule : _) → result ≡ Err (TableFault.Wrong number rule) → IsLeastFault (all_parts rules) number rule }
+        ensures wrong { (number rule : _) → result ≡ Err (TableFault.Wrong number rule)
+            → IsLeastFault (all_parts rules) number rule }
     {
         let mut cells = Vec::new(alloc);
         let mut roots = Vec::new(alloc);

@@ -1,4 +1,4 @@
-use Rattle.rw_grammar.proofs.Unique.{one_tree}
+use Rattle.rw_grammar.specs.TreeLaws.{one_tree}
 use Rattle.rw_grammar.proofs.laws.a_rule_derives_one_tree.Goals as goal
 
 pub returns : goal.returns
