@@ -69,12 +69,12 @@ fn run_failing_at(alloc: Global, call: u32) -> Result<(u8, usize), Fail> {
             return Err(Fail::new("a file of another kind is changed"));
         }
     }
-    let mut renamed = 0;
+    let mut renamed = 0usize;
     for name in NAMES {
         if !has(alloc, &mut store, name, b"new=1")? {
             break;
         }
-        renamed += 1;
+        renamed = renamed.saturating_add(1);
     }
     Ok((status, renamed))
 }
