@@ -2,11 +2,12 @@
 use Rattle.std.proofs.Common.{◌≡◌, refl, List, length, Bool, true, false, if◌then◌else◌}
 use Rattle.std.specs.List.{zip}
 use Rattle.dialogue.specs.Dialogue.{done, run}
-use Rattle.dialogue.specs.Told.{Told, told_done}
+use Rattle.dialogue.specs.Told.{Told}
+use Rattle.dialogue.specs.ToldLaws.{told_done}
 use Rattle.jtypes.specs.World.{World, Rule}
 use Rattle.jtypes.specs.declared.ask.Ask.{Ask}
 use Rattle.jtypes.specs.declared.signatures.MethodSig.{MethodSig}
-use Rattle.j_overload.specs.Tests.{all_of}
+use Rattle.j_overload.specs.TestEach.{all_of}
 use Rattle.j_overload.specs.Parameters.{parameter_types, takes_number}
 use Rattle.j_overload.specs.Rules.{applicable, argument_fit}
 use Rattle.j_overload.specs.declared.argument.ArgType.{ArgType}

@@ -1,6 +1,7 @@
 -- The rule gives the choice, and there is one choice.
 use Rattle.std.proofs.Common.{◌≡◌, ◌∙◌, sym, ap, subst, refl, ℕ, ◌≤◌, List, Option, Some, None, arith, inl, inr}
-use Rattle.dialogue.specs.Dialogue.{In, run, bind, done, run-bind}
+use Rattle.dialogue.specs.Dialogue.{In, run, bind, done}
+use Rattle.dialogue.specs.DialogueLaws.{run-bind}
 use Rattle.jtypes.specs.World.{World, Rule}
 use Rattle.jtypes.specs.declared.signatures.MethodSig.{MethodSig}
 use Rattle.j_overload.specs.Rules.{choice_in, choice_of, unless_chosen}

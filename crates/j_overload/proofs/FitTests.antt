@@ -1,7 +1,8 @@
 -- What the tests of one argument give.
 use Rattle.std.proofs.Common.{◌≡◌, ◌∙◌, sym, ap, subst, refl, ℕ, List, [], ◌∷◌, Bool, true, false, Option, ◌⊎◌, inl, inr}
 use Rattle.dialogue.specs.Dialogue.{done}
-use Rattle.dialogue.specs.Told.{Told, Heard, told_done, told_ask}
+use Rattle.dialogue.specs.Told.{Told, Heard}
+use Rattle.dialogue.specs.ToldLaws.{told_done, told_ask}
 use Rattle.jtypes.specs.World.{World, Answer}
 use Rattle.jtypes.specs.Fits.{strict_fit, loose_fit}
 use Rattle.jtypes.specs.declared.ask.Ask.{Ask}

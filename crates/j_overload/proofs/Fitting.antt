@@ -14,7 +14,7 @@ use Rattle.jtypes.specs.declared.signatures.Header.{Header}
 use Rattle.jtypes.specs.declared.signatures.MethodSig.{MethodSig}
 use Rattle.jtypes.specs.declared.types.JType.{JType}
 use Rattle.jtypes.specs.declared.types.JType.TheVariants.{Class, Unknown}
-use Rattle.j_overload.specs.Parameters.{spread, parameter_types, takes_number, TakesNumber, compared}
+use Rattle.j_overload.specs.Parameters.{spread, parameter_types, takes_number, TakesNumber, compared_count}
 use Rattle.j_overload.specs.Rules.{is_interface, may_take_a_function, function_fit, argument_fit, applicable, more_specific}
 use Rattle.j_overload.specs.Choices.{TakesFunction, unknown, absent, interface, Fits, Applicable, MoreSpecific}
 use Rattle.j_overload.specs.declared.argument.ArgType.{ArgType}
@@ -139,17 +139,17 @@ applicable_all w phase args m h =
     run-applicable w phase args m (number_all phase m (length args) h.number)
     ∙ zip_tests (λ a t. run (argument_fit phase a t) w) (Fits w phase) (fit_all w phase) args (parameter_types phase m (length args)) h.fits
 
-run-specific : (w : World) (phase : Phase) (k : ℕ) (m n : MethodSig) → run (more_specific phase k m n) w ≡ list_all (λ t. run (subtype t.0 t.1) w) (zip (parameter_types phase m (compared k n)) (parameter_types phase n (compared k n)))
+run-specific : (w : World) (phase : Phase) (k : ℕ) (m n : MethodSig) → run (more_specific phase k m n) w ≡ list_all (λ t. run (subtype t.0 t.1) w) (zip (parameter_types phase m (compared_count k n)) (parameter_types phase n (compared_count k n)))
 unfolding more_specific
-run-specific w phase k m n = run-all (λ t. subtype t.0 t.1) (zip (parameter_types phase m (compared k n)) (parameter_types phase n (compared k n))) w
+run-specific w phase k m n = run-all (λ t. subtype t.0 t.1) (zip (parameter_types phase m (compared_count k n)) (parameter_types phase n (compared_count k n))) w
 
 pub specific_true : (w : World) (phase : Phase) (k : ℕ) (m n : MethodSig) → takes_number phase m k ≡ true → takes_number phase n k ≡ true → run (more_specific phase k m n) w ≡ true → MoreSpecific w phase k m n
 unfolding MoreSpecific
-specific_true w phase k m n e f h = zip_true (λ t u. run (subtype t u) w) (Subtype w) (subtype_true w) (parameter_types phase m (compared k n)) (parameter_types phase n (compared k n)) (same_lengths phase m n k (compared k n) e f) (sym (run-specific w phase k m n) ∙ h)
+specific_true w phase k m n e f h = zip_true (λ t u. run (subtype t u) w) (Subtype w) (subtype_true w) (parameter_types phase m (compared_count k n)) (parameter_types phase n (compared_count k n)) (same_lengths phase m n k (compared_count k n) e f) (sym (run-specific w phase k m n) ∙ h)
 
 pub specific_all : (w : World) (phase : Phase) (k : ℕ) (m n : MethodSig) → MoreSpecific w phase k m n → run (more_specific phase k m n) w ≡ true
 unfolding MoreSpecific
-specific_all w phase k m n h = run-specific w phase k m n ∙ zip_tests (λ t u. run (subtype t u) w) (Subtype w) (subtype_all w) (parameter_types phase m (compared k n)) (parameter_types phase n (compared k n)) h
+specific_all w phase k m n h = run-specific w phase k m n ∙ zip_tests (λ t u. run (subtype t u) w) (Subtype w) (subtype_all w) (parameter_types phase m (compared_count k n)) (parameter_types phase n (compared_count k n)) h
 
 all_same : (w : World) (ts : List JType) → AllZip (Subtype w) ts ts
 all_same w [] = tt
@@ -158,4 +158,4 @@ all_same w (t ∷ ts) = (same t, all_same w ts)
 -- a method is more specific than itself
 pub specific_same : (w : World) (phase : Phase) (k : ℕ) (m : MethodSig) → MoreSpecific w phase k m m
 unfolding MoreSpecific
-specific_same w phase k m = all_same w (parameter_types phase m (compared k m))
+specific_same w phase k m = all_same w (parameter_types phase m (compared_count k m))

@@ -5,6 +5,7 @@ pub mod Picks
 pub mod Applying
 pub mod Equals
 pub mod Deciding
+pub mod Lone
 pub mod Fitting
 pub mod Members
 pub mod Phases

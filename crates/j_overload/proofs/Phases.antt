@@ -2,13 +2,14 @@
 use Rattle.std.proofs.Common.{◌≡◌, ◌∙◌, sym, ap, subst, refl, ℕ, ◌+◌, ◌≤◌, List, [], ◌∷◌, length, filter, Bool, true, false, Option, Some, None, slice_get, arith, if◌then◌else◌, inl, inr}
 use Rattle.std.specs.List.{list_all, enumerate_from}
 use Rattle.std.proofs.lemmas.Bool.Decides.{eqb_tells}
-use Rattle.dialogue.specs.Dialogue.{In, run, done, run-bind}
+use Rattle.dialogue.specs.Dialogue.{In, run, done}
+use Rattle.dialogue.specs.DialogueLaws.{run-bind}
 use Rattle.jtypes.proofs.Equality.{true_false, type_eq_true, type_eq_same}
 use Rattle.jtypes.specs.Subtype.{type_eq}
 use Rattle.jtypes.specs.World.{World}
 use Rattle.jtypes.specs.declared.signatures.MethodSig.{MethodSig}
 use Rattle.jtypes.specs.declared.types.JType.{JType}
-use Rattle.j_overload.specs.Tests.{all_of}
+use Rattle.j_overload.specs.TestEach.{all_of}
 use Rattle.j_overload.specs.Parameters.{takes_number}
 use Rattle.j_overload.specs.Rules.{applicable, applicable_ones, more_specific, most_specific_ones, types_eq, first_of_equals, choice_among, choice_in}
 use Rattle.j_overload.specs.Choices.{AppliesAt, NoneApplies, Decides, MostSpecific, Chosen, method, none_most_specific, unequal}
@@ -18,24 +19,11 @@ use Rattle.j_overload.specs.declared.choice.Choice.TheVariants.{Method, Ambiguou
 use Rattle.j_overload.specs.declared.phase.Phase.{Phase}
 use Rattle.j_overload.proofs.Testing.{run-all, run-those}
 use Rattle.j_overload.proofs.Fitting.{applicable_true, applicable_all, specific_true, specific_all, specific_same, number_all}
+use Rattle.j_overload.proofs.Equals.{types_eq_true, types_eq_same}
 use Rattle.j_overload.proofs.Members.{of_filter, to_filter, all_in, in_all, one_fails, of_numbered, to_numbered, Ordered, ordered_numbers, ordered_filter}
 
 same_some : {A : Type 0} (o : Option A) (x y : A) → o ≡ Some x → o ≡ Some y → x ≡ y
 same_some o x y e f = cc
-
-types_eq_true : (ts us : List JType) → types_eq ts us ≡ true → ts ≡ us
-types_eq_true [] [] h = refl
-types_eq_true [] (u ∷ us) h = true_false (sym h)
-types_eq_true (t ∷ ts) [] h = true_false (sym h)
-types_eq_true (t ∷ ts) (u ∷ us) h = by_test (type_eq t u) refl (types_eq_true ts us) h
-  where
-    by_test : (b : Bool) → type_eq t u ≡ b → (types_eq ts us ≡ true → ts ≡ us) → (if b then types_eq ts us else false) ≡ true → t ∷ ts ≡ u ∷ us
-    by_test true e f k = let g = type_eq_true t u e in let l = f k in λ i. g i ∷ l i
-    by_test false e f k = true_false (sym k)
-
-types_eq_same : (ts : List JType) → types_eq ts ts ≡ true
-types_eq_same [] = refl
-types_eq_same (t ∷ ts) = ap (λ b. if b then types_eq ts ts else false) (type_eq_same t) ∙ types_eq_same ts
 
 module _ (w : World) (cs : List MethodSig) (args : List ArgType) (phase : Phase) where
   abbrev applies : ℕ × MethodSig → Bool

@@ -6,35 +6,35 @@ use Rattle.std.proofs.lemmas.List.FromFn.{length-enumerate_from}
 use Rattle.std.proofs.lemmas.List.Elements.{filter_map-append, All-get_or, All-append}
 use Rattle.jtypes.specs.declared.signatures.MethodSig.{MethodSig}
 use Rattle.j_overload.specs.Parameters.{takes_number}
-use Rattle.j_overload.specs.Picked.{picked, with_position, TakesAt}
+use Rattle.j_overload.specs.Picked.{candidates_at, with_position, TakesAt}
 use Rattle.j_overload.specs.declared.phase.Phase.{Phase}
 
-pub picked-none : (cs : List MethodSig) → picked cs [] ≡ []
-unfolding picked
-picked-none cs = refl
+pub candidates_at-none : (cs : List MethodSig) → candidates_at cs [] ≡ []
+unfolding candidates_at
+candidates_at-none cs = refl
 
-pub picked-append : (cs : List MethodSig) (is js : List ℕ) → picked cs (is ++ js) ≡ picked cs is ++ picked cs js
-unfolding picked
-picked-append cs is js = filter_map-append (λ i. with_position i (slice_get cs i)) is js
+pub candidates_at-append : (cs : List MethodSig) (is js : List ℕ) → candidates_at cs (is ++ js) ≡ candidates_at cs is ++ candidates_at cs js
+unfolding candidates_at
+candidates_at-append cs is js = filter_map-append (λ i. with_position i (slice_get cs i)) is js
 
-pub picked-one : (cs : List MethodSig) (i : ℕ) (m : MethodSig) → slice_get cs i ≡ Some m → picked cs (i ∷ []) ≡ (i, m) ∷ []
-unfolding picked
-picked-one cs i m e = ap (λ o. filter_map (λ k. with_position i o) (i ∷ [])) e
+pub candidates_at-one : (cs : List MethodSig) (i : ℕ) (m : MethodSig) → slice_get cs i ≡ Some m → candidates_at cs (i ∷ []) ≡ (i, m) ∷ []
+unfolding candidates_at
+candidates_at-one cs i m e = ap (λ o. filter_map (λ k. with_position i o) (i ∷ [])) e
 
 -- one more position of a list of them
-pub picked_more : (cs : List MethodSig) (is : List ℕ) (k : ℕ) (m : MethodSig) → k < length is → slice_get cs (get_or is k 0) ≡ Some m → picked cs (take (k + 1) is) ≡ picked cs (take k is) ++ (get_or is k 0, m) ∷ []
-picked_more cs is k m lt e = rw (add-one, take-suc is k 0 lt) (picked-append cs (take k is) (get_or is k 0 ∷ []) ∙ ap (λ ms. picked cs (take k is) ++ ms) (picked-one cs (get_or is k 0) m e))
+pub picked_more : (cs : List MethodSig) (is : List ℕ) (k : ℕ) (m : MethodSig) → k < length is → slice_get cs (get_or is k 0) ≡ Some m → candidates_at cs (take (k + 1) is) ≡ candidates_at cs (take k is) ++ (get_or is k 0, m) ∷ []
+picked_more cs is k m lt e = rw (add-one, take-suc is k 0 lt) (candidates_at-append cs (take k is) (get_or is k 0 ∷ []) ∙ ap (λ ms. candidates_at cs (take k is) ++ ms) (candidates_at-one cs (get_or is k 0) m e))
 
 -- one position at the end
-pub picked-push : (cs : List MethodSig) (is : List ℕ) (i : ℕ) (m : MethodSig) → slice_get cs i ≡ Some m → picked cs (is ++ i ∷ []) ≡ picked cs is ++ (i, m) ∷ []
-picked-push cs is i m e = picked-append cs is (i ∷ []) ∙ ap (λ ms. picked cs is ++ ms) (picked-one cs i m e)
+pub candidates_at-push : (cs : List MethodSig) (is : List ℕ) (i : ℕ) (m : MethodSig) → slice_get cs i ≡ Some m → candidates_at cs (is ++ i ∷ []) ≡ candidates_at cs is ++ (i, m) ∷ []
+candidates_at-push cs is i m e = candidates_at-append cs is (i ∷ []) ∙ ap (λ ms. candidates_at cs is ++ ms) (candidates_at-one cs i m e)
 
-pub picked-cons : (cs : List MethodSig) (i : ℕ) (is : List ℕ) (m : MethodSig) → slice_get cs i ≡ Some m → picked cs (i ∷ is) ≡ (i, m) ∷ picked cs is
-picked-cons cs i is m e = picked-append cs (i ∷ []) is ∙ ap (λ ms. ms ++ picked cs is) (picked-one cs i m e)
+pub candidates_at-cons : (cs : List MethodSig) (i : ℕ) (is : List ℕ) (m : MethodSig) → slice_get cs i ≡ Some m → candidates_at cs (i ∷ is) ≡ (i, m) ∷ candidates_at cs is
+candidates_at-cons cs i is m e = candidates_at-append cs (i ∷ []) is ∙ ap (λ ms. ms ++ candidates_at cs is) (candidates_at-one cs i m e)
 
 -- what is left from a position of a list of them
-pub picked_rest : (cs : List MethodSig) (is : List ℕ) (k : ℕ) (m : MethodSig) → k < length is → slice_get cs (get_or is k 0) ≡ Some m → picked cs (drop k is) ≡ (get_or is k 0, m) ∷ picked cs (drop (k + 1) is)
-picked_rest cs is k m lt e = rw (add-one, drop-cons is k 0 lt) (picked-cons cs (get_or is k 0) (drop (suc k) is) m e)
+pub picked_rest : (cs : List MethodSig) (is : List ℕ) (k : ℕ) (m : MethodSig) → k < length is → slice_get cs (get_or is k 0) ≡ Some m → candidates_at cs (drop k is) ≡ (get_or is k 0, m) ∷ candidates_at cs (drop (k + 1) is)
+picked_rest cs is k m lt e = rw (add-one, drop-cons is k 0 lt) (candidates_at-cons cs (get_or is k 0) (drop (suc k) is) m e)
 
 some_within : {A : Type 0} (xs : List A) (i : ℕ) (x : A) → slice_get xs i ≡ Some x → i < length xs
 some_within [] i x e = absurd (let h : None ≡ Some x = e in cc)
@@ -97,12 +97,12 @@ pub no_positions : (is : List ℕ) → length is < 1 → is ≡ []
 no_positions [] h = refl
 no_positions (i ∷ is) h = absurd (omega arith)
 
-pub picks_some : (cs : List MethodSig) (phase : Phase) (k : ℕ) (is : List ℕ) → (is ≡ [] → ⊥) → All (TakesAt cs phase k) is → picked cs is ≡ [] → ⊥
+pub picks_some : (cs : List MethodSig) (phase : Phase) (k : ℕ) (is : List ℕ) → (is ≡ [] → ⊥) → All (TakesAt cs phase k) is → candidates_at cs is ≡ [] → ⊥
 picks_some cs phase k [] h t e = h refl
 picks_some cs phase k (i ∷ is) h t e = by_first (t 0 i (omega arith))
   where
     by_first : TakesAt cs phase k i → ⊥
-    by_first (m, f, l) = let g : (i, m) ∷ picked cs is ≡ [] = sym (picked-cons cs i is m f) ∙ e in cc
+    by_first (m, f, l) = let g : (i, m) ∷ candidates_at cs is ≡ [] = sym (candidates_at-cons cs i is m f) ∙ e in cc
 
 pub all_none : (cs : List MethodSig) (phase : Phase) (k : ℕ) → All (TakesAt cs phase k) []
 all_none cs phase k j d lt = absurd (omega arith)

@@ -3,11 +3,13 @@ use Rattle.std.proofs.Common.{◌≡◌, ◌∙◌, sym, ap, subst, refl, List, 
 use Rattle.std.specs.List.{list_all, flat_map}
 use Rattle.std.proofs.lemmas.Grind.{flat_map-append}
 use Rattle.std.proofs.lemmas.List.Folds.{list_all-append, list_all-map}
-use Rattle.dialogue.specs.Dialogue.{done, bind, each, run, asked, run-bind, asked-bind, run-each, asked-each}
-use Rattle.dialogue.specs.Told.{Told, Heard, heard_more}
+use Rattle.dialogue.specs.Dialogue.{done, bind, each, run, asked}
+use Rattle.dialogue.specs.DialogueLaws.{run-bind, asked-bind, run-each, asked-each}
+use Rattle.dialogue.specs.Told.{Told, Heard}
+use Rattle.dialogue.specs.ToldLaws.{heard_more}
 use Rattle.jtypes.specs.World.{World, Rule}
 use Rattle.jtypes.specs.declared.ask.Ask.{Ask}
-use Rattle.j_overload.specs.Tests.{all_of, those}
+use Rattle.j_overload.specs.TestEach.{all_of, those}
 
 pub run-all : {A : Type 0} (test : A → Rule Bool) (xs : List A) (w : World) → run (all_of test xs) w ≡ list_all (λ x. run (test x) w) xs
 run-all test xs w =

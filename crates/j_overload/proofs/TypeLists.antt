@@ -12,7 +12,7 @@ use Rattle.jtypes.specs.declared.types.JType.TheViews.{Array}
 use Rattle.jtypes.proofs.Equality.{types_decide, same_bool, true_false}
 use Rattle.jtypes.specs.Subtype.{type_eq}
 use Rattle.j_overload.specs.Rules.{types_eq}
-use Rattle.j_overload.specs.Parameters.{element_type, spread, parameter_types, takes_number, HasTypeAt, compared}
+use Rattle.j_overload.specs.Parameters.{element_type, spread, parameter_types, takes_number, HasTypeAt, compared_count}
 use Rattle.j_overload.specs.declared.phase.Phase.{Phase}
 use Rattle.j_overload.specs.declared.phase.Phase.TheVariants.{Strict, Loose, Variable}
 
@@ -100,7 +100,7 @@ below_count n k i e lt = elim (eqb_tells n (k + 1)) [
   | inr h ↦ at_most (nat_eq n (k + 1)) k i lt h.0
 ]
 
-pub compared_type : (phase : Phase) (m n : MethodSig) (k i : ℕ) → takes_number phase m k ≡ true → takes_number phase n k ≡ true → i < compared k n → HasTypeAt phase m i
+pub compared_type : (phase : Phase) (m n : MethodSig) (k i : ℕ) → takes_number phase m k ≡ true → takes_number phase n k ≡ true → i < compared_count k n → HasTypeAt phase m i
 compared_type Strict m n k i h l lt = has_type Strict m k i h (below_count (length n.params) k i (eqb-true _ _ l) lt)
 compared_type Loose m n k i h l lt = has_type Loose m k i h (below_count (length n.params) k i (eqb-true _ _ l) lt)
 compared_type Variable m n k i h l lt = ltb-true 0 (length m.params) (some_last m.varargs (nat_lt 0 (length m.params)) (nat_le (length m.params) (k + 1)) h)
@@ -113,11 +113,11 @@ at_least n k = by_test (nat_eq n (k + 1))
     by_test false = omega arith
 
 -- no more types than are compared
-pub compared_length : (phase : Phase) (n : MethodSig) (k : ℕ) → takes_number phase n k ≡ true → length (parameter_types phase n (compared k n)) ≤ compared k n
+pub compared_length : (phase : Phase) (n : MethodSig) (k : ℕ) → takes_number phase n k ≡ true → length (parameter_types phase n (compared_count k n)) ≤ compared_count k n
 unfolding parameter_types
 compared_length Strict n k h = let e : length n.params ≡ k = eqb-true _ _ h in let l = at_least (length n.params) k in omega arith
 compared_length Loose n k h = let e : length n.params ≡ k = eqb-true _ _ h in let l = at_least (length n.params) k in omega arith
-compared_length Variable n k h = spread_length n.params (compared k n)
+compared_length Variable n k h = spread_length n.params (compared_count k n)
 
 pub at_place : {A : Type 0} (ts : List A) (i : ℕ) (t : A) → i < length ts → t ≡ get_or ts i t → slice_get ts i ≡ Some t
 at_place ts i t lt e = slice_get_read ts (length ts) i t refl lt e
@@ -129,25 +129,6 @@ fixed_at Strict m k i t h lt e = at_place m.params i t lt e
 fixed_at Loose m k i t h lt e = at_place m.params i t lt e
 fixed_at Variable m k i t (inl h) lt e = absurd (let f : Variable ≡ Strict = h in cc)
 fixed_at Variable m k i t (inr h) lt e = absurd (let f : Variable ≡ Loose = h in cc)
-
-pub lengths_differ : (ts us : List JType) → (length ts ≡ length us → ⊥) → types_eq ts us ≡ false
-lengths_differ [] [] h = absurd (h refl)
-lengths_differ [] (u ∷ us) h = refl
-lengths_differ (t ∷ ts) [] h = refl
-lengths_differ (t ∷ ts) (u ∷ us) h = by_test (type_eq t u) (lengths_differ ts us (λ e. h (ap suc e)))
-  where
-    by_test : (b : Bool) → types_eq ts us ≡ false → (if b then types_eq ts us else false) ≡ false
-    by_test true e = e
-    by_test false e = refl
-
-types_from : (i : ℕ) (ts us : List JType) (t u : JType) → i < length ts → i < length us → t ≡ get_or ts i t → u ≡ get_or us i u → types_eq (drop i ts) (drop i us) ≡ (if type_eq t u then types_eq (drop (suc i) ts) (drop (suc i) us) else false)
-types_from i ts us t u l m e f = let g = drop-cons ts i t l in let h = drop-cons us i u m in rw (g, h, ← e, ← f) refl
-
-pub same_from : (i : ℕ) (ts us : List JType) (t u : JType) → i < length ts → i < length us → t ≡ get_or ts i t → u ≡ get_or us i u → t ≡ u → types_eq (drop i ts) (drop i us) ≡ types_eq (drop (i + 1) ts) (drop (i + 1) us)
-same_from i ts us t u l m e f s = rw add-one (types_from i ts us t u l m e f ∙ ap (λ b. if b then types_eq (drop (suc i) ts) (drop (suc i) us) else false) ((types_decide t u).1 s))
-
-pub other_from : (i : ℕ) (ts us : List JType) (t u : JType) → i < length ts → i < length us → t ≡ get_or ts i t → u ≡ get_or us i u → (t ≡ u → ⊥) → types_eq (drop i ts) (drop i us) ≡ false
-other_from i ts us t u l m e f s = types_from i ts us t u l m e f ∙ ap (λ b. if b then types_eq (drop (suc i) ts) (drop (suc i) us) else false) (same_bool (type_eq t u) false (λ h. absurd (s ((types_decide t u).0 h))) (λ h. true_false (sym h)))
 
 pub up_to : (n k i end : ℕ) → end ≡ k → n ≤ k → end ≤ i → n ≤ i
 up_to n k i end e h l = omega arith

@@ -11,7 +11,7 @@ use Rattle.jtypes.specs.declared.signatures.Header.{Header}
 use Rattle.jtypes.specs.declared.signatures.MethodSig.{MethodSig}
 use Rattle.jtypes.specs.declared.types.JType.{JType}
 use Rattle.jtypes.specs.declared.types.JType.TheVariants.{Class, Unknown}
-use Rattle.j_overload.specs.Parameters.{parameter_types, TakesNumber, compared}
+use Rattle.j_overload.specs.Parameters.{parameter_types, TakesNumber, compared_count}
 use Rattle.j_overload.specs.declared.argument.ArgType.{ArgType}
 use Rattle.j_overload.specs.declared.argument.ArgType.TheVariants.{Known, Function}
 use Rattle.j_overload.specs.declared.choice.Choice.{Choice}
@@ -19,11 +19,13 @@ use Rattle.j_overload.specs.declared.choice.Choice.TheVariants.{Method, None as 
 use Rattle.j_overload.specs.declared.phase.Phase.{Phase}
 use Rattle.j_overload.specs.declared.phase.Phase.TheVariants.{Strict, Loose, Variable}
 
--- a lambda or a method reference fits an interface, a class that isn't there, and Unknown (JLS 15.12.2.1, where the interface's method isn't looked at)
+-- a lambda or a method reference fits an interface, a class that isn't there, and Unknown (JLS 15.12.2.1, where the
+-- interface's method isn't looked at)
 pub data TakesFunction (w : World) : JType → Type 0 where
   unknown : TakesFunction w Unknown
   absent : (name : List ℕ) → w (AskClass name) ≡ None → TakesFunction w (Class name)
-  interface : (name : List ℕ) (header : Header) → w (AskClass name) ≡ Some header → header.kind ≡ Interface → TakesFunction w (Class name)
+  interface : (name : List ℕ) (header : Header) → w (AskClass name) ≡ Some header → header.kind ≡ Interface
+      → TakesFunction w (Class name)
 
 -- an argument fits a parameter: strictly in the first phase, loosely in the others (JLS 15.12.2.2 to 15.12.2.4)
 abbrev pub Fits : World → Phase → ArgType → JType → Type 0
@@ -39,7 +41,8 @@ pub record Applicable (w : World) (phase : Phase) (args : List ArgType) (m : Met
 
 -- m is more specific than n for k arguments: each of its types is the same as n's or a subtype of it (JLS 15.12.2.5)
 unfoldable pub MoreSpecific : World → Phase → ℕ → MethodSig → MethodSig → Type 0
-MoreSpecific w phase k m n = AllZip (Subtype w) (parameter_types phase m (compared k n)) (parameter_types phase n (compared k n))
+MoreSpecific w phase k m n =
+    AllZip (Subtype w) (parameter_types phase m (compared_count k n)) (parameter_types phase n (compared_count k n))
 
 -- the phases before a phase
 abbrev pub before : Phase → List Phase
@@ -72,5 +75,7 @@ module _ (w : World) (candidates : List MethodSig) (args : List ArgType) where
         → ((j : ℕ) (n : MethodSig) → MostSpecific phase j n → (i ≤ j) × (m.params ≡ n.params))
         → Chosen (Method i)
     none_applies : ((phase : Phase) → NoneApplies phase) → Chosen NoMethod
-    none_most_specific : (phase : Phase) → Decides phase → ((i : ℕ) (m : MethodSig) → MostSpecific phase i m → ⊥) → Chosen Ambiguous
-    unequal : (phase : Phase) (i j : ℕ) (m n : MethodSig) → Decides phase → MostSpecific phase i m → MostSpecific phase j n → m.params ≢ n.params → Chosen Ambiguous
+    none_most_specific : (phase : Phase) → Decides phase → ((i : ℕ) (m : MethodSig) → MostSpecific phase i m → ⊥)
+        → Chosen Ambiguous
+    unequal : (phase : Phase) (i j : ℕ) (m n : MethodSig) → Decides phase
+        → MostSpecific phase i m → MostSpecific phase j n → m.params ≢ n.params → Chosen Ambiguous

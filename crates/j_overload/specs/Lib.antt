@@ -1,4 +1,4 @@
-pub mod Tests
+pub mod TestEach
 pub mod Parameters
 pub mod Rules
 pub mod Choices

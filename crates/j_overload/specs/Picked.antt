@@ -10,8 +10,8 @@ with_position i None = None
 with_position i (Some m) = Some (i, m)
 
 -- the candidates at these positions, each with its position
-unfoldable pub picked : List MethodSig → List ℕ → List (ℕ × MethodSig)
-picked candidates places = filter_map (λ i. with_position i (slice_get candidates i)) places
+unfoldable pub candidates_at : List MethodSig → List ℕ → List (ℕ × MethodSig)
+candidates_at candidates places = filter_map (λ i. with_position i (slice_get candidates i)) places
 
 -- a candidate stands at this position, and can take k arguments in a phase
 abbrev pub TakesAt : List MethodSig → Phase → ℕ → ℕ → Type 0

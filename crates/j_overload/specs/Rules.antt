@@ -12,8 +12,8 @@ use Rattle.jtypes.specs.declared.signatures.Header.{Header}
 use Rattle.jtypes.specs.declared.signatures.MethodSig.{MethodSig}
 use Rattle.jtypes.specs.declared.types.JType.{JType}
 use Rattle.jtypes.specs.declared.types.JType.TheVariants.{Class, Unknown}
-use Rattle.j_overload.specs.Tests.{all_of, those}
-use Rattle.j_overload.specs.Parameters.{parameter_types, takes_number, compared}
+use Rattle.j_overload.specs.TestEach.{all_of, those}
+use Rattle.j_overload.specs.Parameters.{parameter_types, takes_number, compared_count}
 use Rattle.j_overload.specs.declared.argument.ArgType.{ArgType}
 use Rattle.j_overload.specs.declared.argument.ArgType.TheVariants.{Known, Function}
 use Rattle.j_overload.specs.declared.choice.Choice.{Choice}
@@ -56,7 +56,9 @@ applicable_ones phase args candidates = those (λ c. applicable phase args c.1) 
 
 -- whether a method is more specific than another for k arguments; each pair of types is tested
 unfoldable pub more_specific : Phase → ℕ → MethodSig → MethodSig → Rule Bool
-more_specific phase k m n = all_of (λ t. subtype t.0 t.1) (zip (parameter_types phase m (compared k n)) (parameter_types phase n (compared k n)))
+more_specific phase k m n =
+    all_of (λ t. subtype t.0 t.1)
+    (zip (parameter_types phase m (compared_count k n)) (parameter_types phase n (compared_count k n)))
 
 -- those that are more specific than all; each is tested against each, and asks nothing against itself
 unfoldable pub most_specific_ones : Phase → ℕ → List (ℕ × MethodSig) → Rule (List (ℕ × MethodSig))

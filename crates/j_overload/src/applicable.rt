@@ -2,9 +2,9 @@
 ghost use Rattle.std.specs.Prelude.{◌≡◌, length, IsTrue, IfOk, All};
 ghost use Rattle.std.specs.List.{zip};
 ghost use Rattle.dialogue.specs.Told.{Told};
-ghost use Rattle.j_overload.specs.Tests.{all_of};
+ghost use Rattle.j_overload.specs.TestEach.{all_of};
 ghost use Rattle.j_overload.specs.Parameters.{parameter_types, takes_number};
-ghost use Rattle.j_overload.specs.Picked.{picked, TakesAt};
+ghost use Rattle.j_overload.specs.Picked.{candidates_at, TakesAt};
 ghost use Rattle.j_overload.specs.Rules.{applicable, applicable_ones, argument_fit, function_fit, is_interface};
 
 use crate::argument::ArgType;
@@ -25,11 +25,11 @@ fn is_interface(kind: ClassKind) -> bool
 }
 
 /// Whether a lambda or a method reference fits a parameter.
-fn function_fits<C: Classes>(alloc: Global, t: &JType, c: &C, asks: &mut Asks) -> Mem<bool>
+fn function_fits<C: Classes>(t: &JType, c: &C, asks: &mut Asks) -> Mem<bool>
     ensures { IfOk result (λ r. Told (function_fit t.now) (C.world c.now) asks.old asks.new r) }
 {
     match t {
-        JType::Class(name) => match ask_class(alloc, name, c, asks)? {
+        JType::Class(name) => match ask_class(name, c, asks)? {
             Some(header) => Ok(is_interface(header.kind)),
             None => Ok(true),
         },
@@ -61,7 +61,7 @@ fn argument_fits<C: Classes>(
             }
         },
         ArgType::Function => {
-            let fits = function_fits(alloc, t, c, asks)?;
+            let fits = function_fits(t, c, asks)?;
             Ok(fits)
         }
     }
@@ -77,7 +77,9 @@ fn arguments_fit<C: Classes>(
     asks: &mut Asks,
 ) -> Mem<bool>
     requires { IsTrue (takes_number phase m.now (length args.now)) }
-    ensures { IfOk result (λ r. Told (all_of (λ t. argument_fit phase t.0 t.1) (zip args.now (parameter_types phase m.now (length args.now)))) (C.world c.now) asks.old asks.new r) }
+    ensures { IfOk result (λ r.
+        let types = parameter_types phase m.now (length args.now) in
+        Told (all_of (λ t. argument_fit phase t.0 t.1) (zip args.now types)) (C.world c.now) asks.old asks.new r) }
 {
     let mut all = true;
     for (at, argument) in args.iter().enumerate() {
@@ -115,7 +117,9 @@ pub(crate) fn applicable_ones<C: Classes>(
     c: &C,
     asks: &mut Asks,
 ) -> Mem<Items<usize>>
-    ensures told { IfOk result (λ places. Told (applicable_ones phase args.now candidates.now) (C.world c.now) asks.old asks.new (picked candidates.now places)) }
+    ensures told { IfOk result (λ places.
+        let ones = candidates_at candidates.now places in
+        Told (applicable_ones phase args.now candidates.now) (C.world c.now) asks.old asks.new ones) }
     ensures take { IfOk result (λ places. All (TakesAt candidates.now phase (length args.now)) places) }
 {
     let mut places = Items::new(alloc);

@@ -1,4 +1,4 @@
-ghost use Rattle.std.specs.Prelude.{IfOk};
+ghost use Rattle.std.specs.Prelude.{◌≡◌, ◌≢◌, [], ◌∷◌, length, IfOk, IfSome, IfNone};
 ghost use Rattle.dialogue.specs.Told.{Told};
 ghost use Rattle.j_overload.specs.Choices.{Chosen};
 ghost use Rattle.j_overload.specs.Rules.{choice_in, choice_of};
@@ -12,7 +12,18 @@ use jtypes::{Asks, Classes, MethodSig};
 use rw_base::Mem;
 use std::alloc::Global;
 
-/// The choice of a phase, if it has applicable candidates.
+/// The place of a list of one.
+fn only_place(places: &[usize]) -> Option<usize>
+    ensures only { IfSome result (λ place. places.now ≡ place ∷ []) }
+    ensures others { IfNone result (length places.now ≢ 1) }
+{
+    match places {
+        [place] => Some(*place),
+        _ => None,
+    }
+}
+
+/// The choice of a phase, if it has applicable candidates. A lone one isn't tested against itself.
 fn choice_in<C: Classes>(
     alloc: Global,
     phase: Phase,
@@ -21,11 +32,15 @@ fn choice_in<C: Classes>(
     c: &C,
     asks: &mut Asks,
 ) -> Mem<Option<Choice>>
-    ensures { IfOk result (λ choice. Told (choice_in phase args.now candidates.now) (C.world c.now) asks.old asks.new choice) }
+    ensures { IfOk result (λ choice.
+        Told (choice_in phase args.now candidates.now) (C.world c.now) asks.old asks.new choice) }
 {
     let places = applicable_ones(alloc, phase, args, candidates, c, asks)?;
     if places.is_empty() {
         return Ok(None);
+    }
+    if let Some(place) = only_place(places.as_slice()) {
+        return Ok(Some(Choice::Method(place)));
     }
     let count = args.len();
     let best = most_specific_ones(alloc, phase, count, candidates, places.as_slice(), c, asks)?;
@@ -41,7 +56,8 @@ pub fn choose_asking<C: Classes>(
     c: &C,
     asks: &mut Asks,
 ) -> Mem<Choice>
-    ensures { IfOk result (λ choice. Told (choice_of candidates.now args.now) (C.world c.now) asks.old asks.new choice) }
+    ensures { IfOk result (λ choice.
+        Told (choice_of candidates.now args.now) (C.world c.now) asks.old asks.new choice) }
 {
     if let Some(choice) = choice_in(alloc, Phase::Strict, args, candidates, c, asks)? {
         return Ok(choice);

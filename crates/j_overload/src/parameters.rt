@@ -1,6 +1,7 @@
 // What arguments a method can take, and the types that they are tested against.
 ghost use Rattle.std.specs.Prelude.{◌≡◌, ◌<◌, ℕ, length, slice_get, Some};
-ghost use Rattle.j_overload.specs.Parameters.{HasTypeAt, compared, element_type, parameter_types, spread, takes_number};
+ghost use Rattle.j_overload.specs.Parameters.{HasTypeAt, compared_count, element_type, parameter_types, spread};
+ghost use Rattle.j_overload.specs.Parameters.{takes_number};
 
 use crate::phase::Phase;
 use jtypes::{JType, MethodSig};
@@ -49,8 +50,8 @@ pub(crate) fn parameter_type(phase: Phase, m: &MethodSig, at: usize) -> &JType
 }
 
 /// How many types of two methods are compared for so many arguments.
-pub(crate) fn compared(count: usize, n: &MethodSig) -> usize
-    ensures { result ≡ compared count n.now }
+pub(crate) fn compared_count(count: usize, n: &MethodSig) -> usize
+    ensures { result ≡ compared_count count n.now }
 {
     if n.params.len().saturating_sub(count) == 1 {
         n.params.len()

@@ -2,15 +2,15 @@
 ghost use Rattle.std.specs.Prelude.{◌≡◌, ◌<◌, length, IsTrue, IfOk, All};
 ghost use Rattle.std.specs.List.{list_all};
 ghost use Rattle.dialogue.specs.Told.{Told};
-ghost use Rattle.j_overload.specs.Tests.{all_of};
+ghost use Rattle.j_overload.specs.TestEach.{all_of};
 ghost use Rattle.j_overload.specs.Parameters.{takes_number};
-ghost use Rattle.j_overload.specs.Picked.{picked, TakesAt};
+ghost use Rattle.j_overload.specs.Picked.{candidates_at, TakesAt};
 ghost use Rattle.j_overload.specs.Rules.{first_of_equals, more_specific, most_specific_ones, types_eq};
 
 use crate::choice::Choice;
-use crate::parameters::{compared, parameter_type};
+use crate::parameters::{compared_count, parameter_type};
 use crate::phase::Phase;
-use jtypes::{Asks, Classes, JType, MethodSig, is_subtype_asking};
+use jtypes::{Asks, Classes, MethodSig, are_same_types, is_subtype_asking};
 use rw_base::Mem;
 use sqlite_items::Items;
 use std::alloc::Global;
@@ -31,7 +31,7 @@ fn is_more_specific<C: Classes>(
     ensures { IfOk result (λ r. Told (more_specific phase count m.now n.now) (C.world c.now) asks.old asks.new r) }
 {
     let mut all = true;
-    for at in 0..compared(count, n) {
+    for at in 0..compared_count(count, n) {
         let t = parameter_type(phase, m, at);
         let u = parameter_type(phase, n, at);
         let more = is_subtype_asking(alloc, t, u, c, asks)?;
@@ -54,7 +54,9 @@ fn is_above_all<C: Classes>(
 ) -> Mem<bool>
     requires first { IsTrue (takes_number phase m.now count) }
     requires others { All (TakesAt candidates.now phase count) places.now }
-    ensures { IfOk result (λ r. Told (all_of (λ d. more_specific phase count m.now d.1) (picked candidates.now places.now)) (C.world c.now) asks.old asks.new r) }
+    ensures { IfOk result (λ r.
+        let others = candidates_at candidates.now places.now in
+        Told (all_of (λ d. more_specific phase count m.now d.1) others) (C.world c.now) asks.old asks.new r) }
 {
     let mut above = true;
     for place in places {
@@ -75,7 +77,10 @@ pub(crate) fn most_specific_ones<C: Classes>(
     asks: &mut Asks,
 ) -> Mem<Items<usize>>
     requires { All (TakesAt candidates.now phase count) places.now }
-    ensures told { IfOk result (λ best. Told (most_specific_ones phase count (picked candidates.now places.now)) (C.world c.now) asks.old asks.new (picked candidates.now best)) }
+    ensures told { IfOk result (λ best.
+        let ones = candidates_at candidates.now places.now in
+        let most_specific = candidates_at candidates.now best in
+        Told (most_specific_ones phase count ones) (C.world c.now) asks.old asks.new most_specific) }
     ensures take { IfOk result (λ best. All (TakesAt candidates.now phase count) best) }
 {
     let mut best = Items::new(alloc);
@@ -88,24 +93,10 @@ pub(crate) fn most_specific_ones<C: Classes>(
     Ok(best)
 }
 
-fn are_same_types(types: &[JType], others: &[JType]) -> bool
-    ensures { result ≡ types_eq types.now others.now }
-{
-    if types.len() != others.len() {
-        return false;
-    }
-    for at in 0..types.len() {
-        if !types[at].is(&others[at]) {
-            return false;
-        }
-    }
-    true
-}
-
 /// Whether a method has the parameters of each candidate at these positions.
 fn has_parameters_of_all(m: &MethodSig, candidates: &[MethodSig], places: &[usize]) -> bool
     requires { All (λ i. i < length candidates.now) places.now }
-    ensures { result ≡ list_all (λ d. types_eq m.now.params d.1.params) (picked candidates.now places.now) }
+    ensures { result ≡ list_all (λ d. types_eq m.now.params d.1.params) (candidates_at candidates.now places.now) }
 {
     for place in places {
         if !are_same_types(m.params.as_slice(), candidates[*place].params.as_slice()) {
@@ -118,7 +109,7 @@ fn has_parameters_of_all(m: &MethodSig, candidates: &[MethodSig], places: &[usiz
 /// The first of the most specific candidates, where all of them have equal parameters.
 pub(crate) fn first_of_equals(candidates: &[MethodSig], best: &[usize]) -> Choice
     requires { All (λ i. i < length candidates.now) best.now }
-    ensures { result ≡ first_of_equals (picked candidates.now best.now) }
+    ensures { result ≡ first_of_equals (candidates_at candidates.now best.now) }
 {
     match best {
         [] => Choice::Ambiguous,

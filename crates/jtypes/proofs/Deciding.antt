@@ -1,10 +1,11 @@
 -- The rules decide the relations.
 use Rattle.std.proofs.Common.{◌≡◌, ℕ, List, [], ◌∷◌, refl, sym, ◌∙◌, ap, subst, inl, inr, Bool, true, false, ◌||◌, Option, None, Some, if◌then◌else◌}
 use Rattle.std.specs.List.{list_any}
-use Rattle.dialogue.specs.Dialogue.{done, bind, run, run-bind}
+use Rattle.dialogue.specs.Dialogue.{done, bind, run}
+use Rattle.dialogue.specs.DialogueLaws.{run-bind}
 use Rattle.jtypes.specs.World.{World, Rule, name_eq}
 use Rattle.jtypes.specs.Primitives.{prim_eq, widened_to, is_prim_subtype, box_name, boxed_in, boxed_among}
-use Rattle.jtypes.specs.Subtype.{Reaches, Subtype, same, widened, inherited, to_object, from_null, array_to_class, arrays, reached, class_subtype, subtype, plain_subtype, is_reference, type_eq, is_array_supertype, array_supertypes, object_name, longest_row}
+use Rattle.jtypes.specs.Subtype.{Reaches, Subtype, same, widened, inherited, to_object, from_null, array_to_class, arrays, classes_reached, class_subtype, subtype, plain_subtype, is_reference, type_eq, is_array_supertype, array_supertypes, object_name, longest_row}
 use Rattle.jtypes.specs.Fits.{FitsStrictly, FitsLoosely, strictly, by_boxing, by_unboxing, strict_fit, loose_fit, is_unknown, unboxed_fit}
 use Rattle.jtypes.specs.declared.types.JPrim.{JPrim}
 use Rattle.jtypes.specs.declared.types.JPrim.TheVariants.{Boolean, Byte, Short, Char, Int, Long, Float, Double}
@@ -15,10 +16,10 @@ use Rattle.jtypes.proofs.Reached.{reached_reaches, reaches_reached}
 use Rattle.jtypes.proofs.Equality.{true_false, or_true, or_cases, or_left, or_right, any_in, in_any, names_decide, prims_decide, type_eq_true, type_eq_same}
 
 abbrev walk : List ℕ → List ℕ → Rule Bool
-walk a b = bind (reached longest_row a) (λ cs. done (list_any (λ c. name_eq b c) cs))
+walk a b = bind (classes_reached longest_row a) (λ cs. done (list_any (λ c. name_eq b c) cs))
 
-walk_gives : (w : World) (a b : List ℕ) → run (walk a b) w ≡ list_any (λ c. name_eq b c) (run (reached longest_row a) w)
-walk_gives w a b = run-bind (reached longest_row a) (λ cs. done (list_any (λ c. name_eq b c) cs)) w
+walk_gives : (w : World) (a b : List ℕ) → run (walk a b) w ≡ list_any (λ c. name_eq b c) (run (classes_reached longest_row a) w)
+walk_gives w a b = run-bind (classes_reached longest_row a) (λ cs. done (list_any (λ c. name_eq b c) cs)) w
 
 class_true : (w : World) (a b : List ℕ) → run (class_subtype a b) w ≡ true → Subtype w (Class a) (Class b)
 unfolding class_subtype
@@ -27,7 +28,7 @@ class_true w a b h = by_tests (name_eq a b) (name_eq b object_name) refl refl h
     by_tests : (r s : Bool) → name_eq a b ≡ r → name_eq b object_name ≡ s → run (if r || s then done true else walk a b) w ≡ true → Subtype w (Class a) (Class b)
     by_tests true s e f k = subst (λ x. Subtype w (Class a) (Class x)) ((names_decide a b).0 e) (same (Class a))
     by_tests false true e f k = subst (λ x. Subtype w (Class a) (Class x)) (sym ((names_decide b object_name).0 f)) (to_object (Class a) refl)
-    by_tests false false e f k = inherited a b (reached_reaches w longest_row a b (any_in name_eq names_decide b (run (reached longest_row a) w) (sym (walk_gives w a b) ∙ k)))
+    by_tests false false e f k = inherited a b (reached_reaches w longest_row a b (any_in name_eq names_decide b (run (classes_reached longest_row a) w) (sym (walk_gives w a b) ∙ k)))
 
 class_at_once : (w : World) (a b : List ℕ) → (name_eq a b || name_eq b object_name) ≡ true → run (class_subtype a b) w ≡ true
 unfolding class_subtype
@@ -39,7 +40,7 @@ class_walked w a b r = by_test (name_eq a b || name_eq b object_name)
   where
     by_test : (t : Bool) → run (if t then done true else walk a b) w ≡ true
     by_test true = refl
-    by_test false = walk_gives w a b ∙ in_any name_eq names_decide b (run (reached longest_row a) w) (reaches_reached w longest_row a b r)
+    by_test false = walk_gives w a b ∙ in_any name_eq names_decide b (run (classes_reached longest_row a) w) (reaches_reached w longest_row a b r)
 
 class_same : (w : World) (a : List ℕ) → run (class_subtype a a) w ≡ true
 class_same w a = class_at_once w a a (or_left (name_eq a a) (name_eq a object_name) ((names_decide a a).1 refl))

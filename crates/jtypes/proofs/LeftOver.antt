@@ -1,7 +1,8 @@
 -- Types of a kind that a match leaves over, and tests that ask nothing.
 use Rattle.std.proofs.Common.{◌≡◌, ℕ, List, refl, sym, ◌∙◌, ap, Bool, true, false, ◌||◌, None, if◌then◌else◌}
 use Rattle.dialogue.specs.Dialogue.{done}
-use Rattle.dialogue.specs.Told.{Told, told_done}
+use Rattle.dialogue.specs.Told.{Told}
+use Rattle.dialogue.specs.ToldLaws.{told_done}
 use Rattle.jtypes.specs.Arrays.{ArrayOf, array_is}
 use Rattle.jtypes.specs.World.{World}
 use Rattle.jtypes.specs.Primitives.{unboxed_type}

@@ -1,5 +1,6 @@
 use Rattle.std.proofs.Common.{◌≡◌, ℕ, ◌<◌, ◌≤◌, List, [], ◌∷◌, ◌++◌, refl, sym, ◌∙◌, ap, subst, Some, None, slice_get, ◌⊎◌, inl, inr, zero, suc, arith, length, append-nil, append_assoc, length-append}
-use Rattle.dialogue.specs.Dialogue.{In, In-append, In-left, In-right}
+use Rattle.dialogue.specs.Dialogue.{In}
+use Rattle.dialogue.specs.DialogueLaws.{In-append, In-left, In-right}
 use Rattle.jtypes.specs.World.{World}
 use Rattle.jtypes.specs.Subtype.{Reaches, supertypes}
 use Rattle.jtypes.specs.Grown.{Grown, Expanded, IsOnce}

@@ -1,4 +1,5 @@
 pub mod Equality
+pub mod Lists
 pub mod Levels
 pub mod Reached
 pub mod Deciding

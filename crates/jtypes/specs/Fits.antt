@@ -8,7 +8,8 @@ use Rattle.jtypes.specs.declared.types.JPrim.{JPrim}
 use Rattle.jtypes.specs.declared.types.JType.{JType}
 use Rattle.jtypes.specs.declared.types.JType.TheVariants.{Prim, Class, Unknown}
 
--- identity, widening of primitives (JLS 5.1.2) or widening of references (JLS 5.1.5); Unknown fits all, and all fit Unknown
+-- identity, widening of primitives (JLS 5.1.2) or widening of references (JLS 5.1.5); Unknown fits all, and all fit
+-- Unknown
 abbrev pub FitsStrictly : World → JType → JType → Type 0
 FitsStrictly w a b = (a ≡ Unknown) ⊎ (b ≡ Unknown) ⊎ Subtype w a b
 

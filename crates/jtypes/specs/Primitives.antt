@@ -66,8 +66,8 @@ unboxed_type Void = None
 unboxed_type Unknown = None
 
 -- double where one is, else float where one is, else long where one is, else int (JLS 5.6.2)
-abbrev pub promoted : JPrim → JPrim → JPrim
-promoted p q =
+abbrev pub promoted_prim : JPrim → JPrim → JPrim
+promoted_prim p q =
     if prim_eq p Double || prim_eq q Double then Double
     else if prim_eq p Float || prim_eq q Float then Float
     else if prim_eq p Long || prim_eq q Long then Long
@@ -77,7 +77,8 @@ promoted p q =
 abbrev pub promoted_numbers : Option JPrim → Option JPrim → JType
 promoted_numbers None q = Unknown
 promoted_numbers (Some p) None = Unknown
-promoted_numbers (Some p) (Some q) = if prim_eq p Boolean || prim_eq q Boolean then Unknown else Prim (promoted p q)
+promoted_numbers (Some p) (Some q) =
+    if prim_eq p Boolean || prim_eq q Boolean then Unknown else Prim (promoted_prim p q)
 
 -- binary numeric promotion after unboxing (JLS 5.6.2)
 abbrev pub promoted_types : JType → JType → JType

@@ -1,5 +1,6 @@
 -- Subtypes: the relation, and the rule with its questions that decides it.
-use Rattle.std.specs.Prelude.{◌≡◌, ◌≢◌, ℕ, List, [], ◌∷◌, Option, None, Some, Bool, true, false, ◌||◌, ◌⊎◌, zero, suc, if◌then◌else◌, codes}
+use Rattle.std.specs.Prelude.{◌≡◌, ◌≢◌, ℕ, List, [], ◌∷◌, Option, None, Some, Bool, true, false, ◌||◌, ◌⊎◌, zero, suc}
+use Rattle.std.specs.Prelude.{if◌then◌else◌, codes}
 use Rattle.std.specs.List.{flat_map, list_any}
 use Rattle.dialogue.specs.Dialogue.{done, ask, bind, each, In}
 use Rattle.jtypes.specs.World.{World, Rule, name_eq}
@@ -55,16 +56,22 @@ pub data Subtype (w : World) : JType → JType → Type 0 where
   to_object : (a : JType) → IsReference a → Subtype w a (Class object_name)
   from_null : (b : JType) → IsReference b → Subtype w Null b
   array_to_class : (element : JType) (b : List ℕ) → In b array_supertypes → Subtype w (ArrayOf element) (Class b)
-  arrays : (element other : JType) → IsReference element → Subtype w element other → Subtype w (ArrayOf element) (ArrayOf other)
+  arrays : (element other : JType) → IsReference element → Subtype w element other
+      → Subtype w (ArrayOf element) (ArrayOf other)
 
 -- the classes reached, each of which is asked for
-unfoldable pub reached : ℕ → List ℕ → Rule (List (List ℕ))
-reached zero a = ask (AskClass a) (λ h. done (a ∷ []))
-reached (suc n) a = ask (AskClass a) (λ h. bind (each (λ s. reached n s) (supertypes_in h)) (λ all. done (a ∷ flat_map (λ cs. cs) all)))
+unfoldable pub classes_reached : ℕ → List ℕ → Rule (List (List ℕ))
+classes_reached zero a = ask (AskClass a) (λ h. done (a ∷ []))
+classes_reached (suc n) a =
+    ask (AskClass a) (λ h.
+    bind (each (λ s. classes_reached n s) (supertypes_in h)) (λ all.
+    done (a ∷ flat_map (λ cs. cs) all)))
 
 -- whether a class is a subtype of another; nothing is asked where they are the same or the other is Object
 unfoldable pub class_subtype : List ℕ → List ℕ → Rule Bool
-class_subtype a b = if name_eq a b || name_eq b object_name then done true else bind (reached longest_row a) (λ cs. done (list_any (λ c. name_eq b c) cs))
+class_subtype a b =
+    if name_eq a b || name_eq b object_name then done true
+    else bind (classes_reached longest_row a) (λ cs. done (list_any (λ c. name_eq b c) cs))
 
 abbrev pub type_eq : JType → JType → Bool
 type_eq (Prim p) (Prim q) = prim_eq p q

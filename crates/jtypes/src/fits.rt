@@ -8,7 +8,7 @@ ghost use Rattle.jtypes.specs.Subtype.{class_subtype};
 use crate::asking::Asks;
 use crate::classes::Classes;
 use crate::name::Name;
-use crate::primitives::{box_of, is_prim_subtype, unboxed};
+use crate::primitives::{box_of, is_prim_subtype, unbox};
 use crate::subtypes::is_subtype_asking;
 use crate::types::{JPrim, JType};
 use crate::walk::is_class_subtype;
@@ -64,7 +64,7 @@ fn fits_boxed<C: Classes>(
 fn fits_unboxed(t: &JType, q: JPrim) -> bool
     ensures { result ≡ unboxed_fit (unboxed_type t.now) q }
 {
-    match unboxed(t) {
+    match unbox(t) {
         Some(p) => is_prim_subtype(p, q),
         None => false,
     }

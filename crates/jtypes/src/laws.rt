@@ -42,15 +42,21 @@ pub fn subtypes_ask_for_the_walk()
 /// In two worlds that answer a test's questions alike, the test of a subtype gives the same and
 /// asks the same.
 pub fn equal_answers_give_equal_subtypes()
-    ensures gives { (w v : World) (a b : JType) → AnswerAlike w v (asked (subtype a b) w) → run (subtype a b) v ≡ run (subtype a b) w }
-    ensures asks { (w v : World) (a b : JType) → AnswerAlike w v (asked (subtype a b) w) → asked (subtype a b) v ≡ asked (subtype a b) w }
+    ensures gives { (w v : World) (a b : JType)
+        → AnswerAlike w v (asked (subtype a b) w) → run (subtype a b) v ≡ run (subtype a b) w }
+    ensures asks { (w v : World) (a b : JType)
+        → AnswerAlike w v (asked (subtype a b) w) → asked (subtype a b) v ≡ asked (subtype a b) w }
 {}
 
 /// In two worlds that answer a test's questions alike, the test of a fit gives the same and asks
 /// the same.
 pub fn equal_answers_give_equal_fits()
-    ensures strict_gives { (w v : World) (a b : JType) → AnswerAlike w v (asked (strict_fit a b) w) → run (strict_fit a b) v ≡ run (strict_fit a b) w }
-    ensures strict_asks { (w v : World) (a b : JType) → AnswerAlike w v (asked (strict_fit a b) w) → asked (strict_fit a b) v ≡ asked (strict_fit a b) w }
-    ensures loose_gives { (w v : World) (a b : JType) → AnswerAlike w v (asked (loose_fit a b) w) → run (loose_fit a b) v ≡ run (loose_fit a b) w }
-    ensures loose_asks { (w v : World) (a b : JType) → AnswerAlike w v (asked (loose_fit a b) w) → asked (loose_fit a b) v ≡ asked (loose_fit a b) w }
+    ensures strict_gives { (w v : World) (a b : JType)
+        → AnswerAlike w v (asked (strict_fit a b) w) → run (strict_fit a b) v ≡ run (strict_fit a b) w }
+    ensures strict_asks { (w v : World) (a b : JType)
+        → AnswerAlike w v (asked (strict_fit a b) w) → asked (strict_fit a b) v ≡ asked (strict_fit a b) w }
+    ensures loose_gives { (w v : World) (a b : JType)
+        → AnswerAlike w v (asked (loose_fit a b) w) → run (loose_fit a b) v ≡ run (loose_fit a b) w }
+    ensures loose_asks { (w v : World) (a b : JType)
+        → AnswerAlike w v (asked (loose_fit a b) w) → asked (loose_fit a b) v ≡ asked (loose_fit a b) w }
 {}

@@ -1,5 +1,25 @@
-//! Java's erased types over any world of classes: subtypes, what fits where a value is passed,
-//! and numeric promotion, each with the questions that it puts to the world.
+//! Java's erased types over any world of classes: subtypes, what fits where a value is passed, and numeric promotion,
+//! each with the questions that it puts to the world.
+//!
+//! ```text
+//! let world = ListWorld::new(alloc, headers, fields, methods)?;
+//! let holds = is_subtype(alloc, &from, &to, &world)?;
+//! ```
+//!
+//! `is_subtype` answers true exactly where the relation `Subtype` of the Java Language Specification, 4.10, holds
+//! over erased types, through at most 64 supertypes in a row; `fits_strictly` and `fits_loosely` do so for
+//! `FitsStrictly` and `FitsLoosely` (5.3). Each has a form that puts its questions to a set, and its clause (`Told`)
+//! says which: it gives what the rule gives, and asks what the rule asks, no more and no less.
+//! `rules_decide_the_relations` says that rule and relation agree in every world, and the laws beside it that equal
+//! answers give equal results and equal questions.
+//!
+//! Names and lists are shared: a copy of a name, of a method's parameters or of a header takes no memory, and one of
+//! a type takes some where the type is an array. `Names` keeps each name once for a file or a worker.
+//!
+//! Read `specs/World.antt` first (questions, answers and worlds), then `Primitives`, `Subtype` (the relation, and
+//! below it the rule that decides it) and `Fits`. `Arrays` says how a definition matches on an array, `Groups` and
+//! `ListWorld` what an indexed world answers, `Grown` how the list of a walk grows, and `AskOrder` that only equal
+//! questions tie.
 #![tactic(auto)]
 
 mod ask;
@@ -11,8 +31,10 @@ mod laws;
 mod list_world;
 mod name;
 mod name_set;
+mod names;
 mod primitives;
 mod promotion;
+mod shared_list;
 mod signatures;
 mod subtypes;
 mod types;
@@ -29,11 +51,11 @@ pub use laws::{
 };
 pub use list_world::ListWorld;
 pub use name::Name;
-pub use primitives::{box_of, unboxed};
+pub use name_set::NameSet;
+pub use names::Names;
+pub use primitives::{box_of, unbox};
 pub use promotion::promote;
+pub use shared_list::SharedList;
 pub use signatures::{ClassKind, FieldSig, Header, MethodSig};
 pub use subtypes::{is_subtype, is_subtype_asking};
-pub use types::{JPrim, JType};
-
-#[cfg(test)]
-mod tests;
+pub use types::{JPrim, JType, are_same_types};

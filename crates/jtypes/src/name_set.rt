@@ -1,4 +1,4 @@
-ghost use Rattle.std.specs.Prelude.{◌≡◌, ◌↔◌, ◌<◌, [], ◌∷◌, ◌++◌, Some, length, map, slice_get, IsTrue, OnOk};
+ghost use Rattle.std.specs.Prelude.{◌≡◌, ◌↔◌, ◌<◌, [], ◌∷◌, ◌++◌, Some, length, map, slice_get, IsTrue, OnOk, OnErr};
 ghost use Rattle.dialogue.specs.Dialogue.{In};
 ghost use Rattle.dialogue.specs.Told.{Heard};
 
@@ -15,7 +15,7 @@ const MOST_FEW: usize = 16;
 
 /// Names in the order in which they came, each once. Contracts see the list of them.
 #[derive(Drop)]
-pub(crate) struct NameSet {
+pub struct NameSet {
     few: Vec<Name>,
     many: IndexSet<Name>,
 }
@@ -48,17 +48,18 @@ fn ask_few(names: Vec<Name>, asks: &mut Asks) -> Mem<()>
     Ok(())
 }
 
-fn ask_each(alloc: Global, names: &[Name], asks: &mut Asks) -> Mem<()>
+fn ask_each(names: &[Name], asks: &mut Asks) -> Mem<()>
     ensures { OnOk result (Heard asks.old (map Ask.Class names.now) asks.new) }
 {
     for name in names {
-        asks.put(Ask::Class(name.copy(alloc)?))?;
+        asks.put(Ask::Class(name.copy()?))?;
     }
     Ok(())
 }
 
 impl NameSet {
-    pub(crate) fn new(alloc: Global) -> NameSet
+    /// The set without names. Takes no memory.
+    pub fn new(alloc: Global) -> NameSet
         ensures { result ≡ [] }
     {
         NameSet {
@@ -67,13 +68,15 @@ impl NameSet {
         }
     }
 
-    pub(crate) fn len(&self) -> usize
+    /// How many there are.
+    pub fn len(&self) -> usize
         ensures { result ≡ length self.now }
     {
         self.few.len() + self.many.len()
     }
 
-    pub(crate) fn at(&self, place: usize) -> &Name
+    /// The name at a place.
+    pub fn at(&self, place: usize) -> &Name
         requires { place < length self.now }
         ensures { slice_get self.now place ≡ Some result.now }
     {
@@ -86,15 +89,16 @@ impl NameSet {
     }
 
     /// Whether a name is there. Takes the same time in a large set as in a small one.
-    pub(crate) fn has(&self, name: &Name) -> bool
+    pub fn has(&self, name: &Name) -> bool
         ensures { IsTrue result ↔ In name.now self.now }
     {
         is_among(&self.few, name) || self.many.contains(name)
     }
 
     /// Puts a name that is not there yet at the end.
-    pub(crate) fn put(&mut self, name: Name) -> Mem<()>
-        ensures { OnOk result ((In name self.old → ⊥) → self.new ≡ self.old ++ name ∷ []) }
+    pub fn put(&mut self, name: Name) -> Mem<()>
+        ensures ok { OnOk result ((In name self.old → ⊥) → self.new ≡ self.old ++ name ∷ []) }
+        ensures err { OnErr result (self.new ≡ self.old) }
     {
         if self.few.len() < MOST_FEW && self.many.is_empty() {
             self.few.push(name)?;
@@ -105,12 +109,12 @@ impl NameSet {
     }
 
     /// Puts the question for the class of each name.
-    pub(crate) fn ask_classes(self, alloc: Global, asks: &mut Asks) -> Mem<()>
+    pub fn ask_classes(self, asks: &mut Asks) -> Mem<()>
         ensures { OnOk result (Heard asks.old (map Ask.Class self) asks.new) }
     {
         let NameSet { few, many } = self;
         ask_few(few, asks)?;
-        ask_each(alloc, many.as_slice(), asks)?;
+        ask_each(many.as_slice(), asks)?;
         Ok(())
     }
 }

@@ -64,7 +64,7 @@ fn boxed_by(name: &Name) -> Option<JPrim>
 }
 
 /// A primitive type, or the one that a class boxes; no other type has one (JLS 5.1.8).
-pub fn unboxed(t: &JType) -> Option<JPrim>
+pub fn unbox(t: &JType) -> Option<JPrim>
     ensures { result ≡ unboxed_type t.now }
 {
     match t {

@@ -1,12 +1,12 @@
 ghost use Rattle.std.specs.Prelude.{◌≡◌};
-ghost use Rattle.jtypes.specs.Primitives.{promoted, promoted_types};
+ghost use Rattle.jtypes.specs.Primitives.{promoted_prim, promoted_types};
 
-use crate::primitives::unboxed;
+use crate::primitives::unbox;
 use crate::types::{JPrim, JType};
 
 /// The wider of two numeric types, and no smaller one than int.
-fn promoted(p: JPrim, q: JPrim) -> JPrim
-    ensures { result ≡ promoted p q }
+fn promoted_prim(p: JPrim, q: JPrim) -> JPrim
+    ensures { result ≡ promoted_prim p q }
 {
     match (p, q) {
         (JPrim::Double, _) | (_, JPrim::Double) => JPrim::Double,
@@ -21,9 +21,9 @@ fn promoted(p: JPrim, q: JPrim) -> JPrim
 pub fn promote(a: &JType, b: &JType) -> JType
     ensures { result ≡ promoted_types a.now b.now }
 {
-    match (unboxed(a), unboxed(b)) {
+    match (unbox(a), unbox(b)) {
         (None, _) | (_, None) => JType::Unknown,
         (Some(JPrim::Boolean), _) | (_, Some(JPrim::Boolean)) => JType::Unknown,
-        (Some(p), Some(q)) => JType::Prim(promoted(p, q)),
+        (Some(p), Some(q)) => JType::Prim(promoted_prim(p, q)),
     }
 }

@@ -14,25 +14,25 @@ use rw_base::Mem;
 use std::alloc::Global;
 
 /// Puts those names that are not there yet.
-fn add_new(alloc: Global, seen: &mut NameSet, names: &[Name]) -> Mem<()>
+fn add_new(seen: &mut NameSet, names: &[Name]) -> Mem<()>
     ensures { OnOk result (Grown names.now seen.old seen.new) }
 {
     for name in names {
         if !seen.has(name) {
-            seen.put(name.copy(alloc)?)?;
+            seen.put(name.copy()?)?;
         }
     }
     Ok(())
 }
 
 /// Puts the supertypes of the classes from one place to before another.
-fn expand<C: Classes>(alloc: Global, seen: &mut NameSet, from: usize, past: usize, c: &C) -> Mem<()>
+fn expand<C: Classes>(seen: &mut NameSet, from: usize, past: usize, c: &C) -> Mem<()>
     requires { past ≤ length seen.old }
     ensures { OnOk result (Expanded (C.world c.now) from past seen.old seen.new) }
 {
     for i in from..past {
         if let Some(header) = c.class(seen.at(i)) {
-            add_new(alloc, seen, header.supertypes.as_slice())?;
+            add_new(seen, header.supertypes.as_slice())?;
         }
     }
     Ok(())
@@ -45,11 +45,11 @@ fn reach<C: Classes>(alloc: Global, name: &Name, most: u32, c: &C) -> Mem<NameSe
     ensures once { IfOk result IsOnce }
 {
     let mut seen = NameSet::new(alloc);
-    seen.put(name.copy(alloc)?)?;
+    seen.put(name.copy()?)?;
     let mut from = 0;
     for _level in 0..most {
         let past = seen.len();
-        expand(alloc, &mut seen, from, past, c)?;
+        expand(&mut seen, from, past, c)?;
         from = past;
     }
     Ok(seen)
@@ -87,6 +87,6 @@ pub(crate) fn is_class_subtype<C: Classes>(
     }
     let names = reach(alloc, a, longest_row(), c)?;
     let found = names.has(b);
-    names.ask_classes(alloc, asks)?;
+    names.ask_classes(asks)?;
     Ok(found)
 }

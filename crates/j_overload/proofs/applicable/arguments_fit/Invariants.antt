@@ -1,7 +1,7 @@
 use Rattle.std.proofs.Common.{length, take}
 use Rattle.std.specs.List.{zip}
 use Rattle.dialogue.specs.Told.{Told}
-use Rattle.j_overload.specs.Tests.{all_of}
+use Rattle.j_overload.specs.TestEach.{all_of}
 use Rattle.j_overload.specs.Parameters.{parameter_types}
 use Rattle.j_overload.specs.Rules.{argument_fit}
 use Rattle.j_overload.proofs.applicable.arguments_fit.Given as goal

@@ -1,5 +1,5 @@
 use Rattle.dialogue.specs.Dialogue.{done}
-use Rattle.dialogue.specs.Told.{told_done}
+use Rattle.dialogue.specs.ToldLaws.{told_done}
 use Rattle.j_overload.specs.Rules.{choice_of, choice_in}
 use Rattle.j_overload.specs.declared.choice.Choice.TheVariants.{None as NoMethod}
 use Rattle.j_overload.specs.declared.phase.Phase.TheVariants.{Strict, Loose, Variable}

@@ -1,4 +1,4 @@
-use Rattle.dialogue.specs.Dialogue.{run_alike, asked_alike}
+use Rattle.dialogue.specs.DialogueLaws.{run_alike, asked_alike}
 use Rattle.j_overload.specs.Rules.{choice_of}
 use Rattle.j_overload.proofs.laws.equal_answers_give_equal_choices.Goals as goal
 

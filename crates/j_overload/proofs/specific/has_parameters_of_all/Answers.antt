@@ -1,8 +1,8 @@
 use Rattle.std.proofs.Common.{◌∙◌, ap, sym, length, rules, ◌<◌, get_or}
 use Rattle.std.specs.List.{list_all}
-use Rattle.j_overload.specs.Picked.{picked}
+use Rattle.j_overload.specs.Picked.{candidates_at}
 use Rattle.j_overload.specs.Rules.{types_eq}
-use Rattle.j_overload.proofs.Picks.{within_at, picked-none, drop_all}
+use Rattle.j_overload.proofs.Picks.{within_at, candidates_at-none, drop_all}
 use Rattle.j_overload.proofs.TypeLists.{at_place}
 use Rattle.j_overload.proofs.Equals.{equal_next, unequal_next, same_test, params_of}
 use Rattle.j_overload.proofs.specific.has_parameters_of_all.Goals as goal
@@ -37,4 +37,4 @@ pub returns : goal.returns
 returns c =
     let cs = c.args.candidates.now in
     let is = c.args.places.now in
-    sym (c.loop-place.invariant ∙ ap (list_all (λ d. types_eq c.args.m.now.params d.1.params)) (ap (picked cs) (drop_all is c.loop-place.place-index c.loop-place-test.false) ∙ picked-none cs))
+    sym (c.loop-place.invariant ∙ ap (list_all (λ d. types_eq c.args.m.now.params d.1.params)) (ap (candidates_at cs) (drop_all is c.loop-place.place-index c.loop-place-test.false) ∙ candidates_at-none cs))

@@ -1,10 +1,10 @@
 use Rattle.std.proofs.Common.{length, rules, ◌<◌, get_or, take, ℕ, []}
-use Rattle.dialogue.specs.Told.{told_done}
+use Rattle.dialogue.specs.ToldLaws.{told_done}
 use Rattle.jtypes.specs.declared.signatures.MethodSig.{MethodSig}
-use Rattle.j_overload.specs.Tests.{all_of}
-use Rattle.j_overload.specs.Picked.{picked}
+use Rattle.j_overload.specs.TestEach.{all_of}
+use Rattle.j_overload.specs.Picked.{candidates_at}
 use Rattle.j_overload.specs.Rules.{more_specific, most_specific_ones}
-use Rattle.j_overload.proofs.Picks.{picked-none, picked_more, picked-push, taken_at, taken_within, taken_takes, all_push, all_none, take_all}
+use Rattle.j_overload.proofs.Picks.{candidates_at-none, picked_more, candidates_at-push, taken_at, taken_within, taken_takes, all_push, all_none, take_all}
 use Rattle.j_overload.proofs.Testing.{told_kept, told_left}
 use Rattle.j_overload.proofs.TypeLists.{at_place}
 use Rattle.j_overload.proofs.specific.most_specific_ones.Goals as goal
@@ -27,7 +27,7 @@ is_above_all-requires-clause-first g c =
     taken_takes cs c.args.phase c.args.count (get_or is k 0) c.index-candidates-place.result taken (at_place cs (get_or is k 0) c.index-candidates-place.result (taken_within cs c.args.phase c.args.count (get_or is k 0) taken) c.index-candidates-place.is)
 
 pub loop-place-init : goal.loop-place-init
-loop-place-init g c = rw (c.new-best.ensures, picked-none c.args.candidates.now) record {
+loop-place-init g c = rw (c.new-best.ensures, candidates_at-none c.args.candidates.now) record {
   told = told_done _ c.args.asks.now [];
   takes = all_none c.args.candidates.now c.args.phase c.args.count;
 }
@@ -44,14 +44,14 @@ loop-place-preserved g c =
     let there = at_place cs i m (taken_within cs c.args.phase c.args.count i taken) c.index-candidates-place.is in
     let more = picked_more cs is k m c.loop-place-test.true there in
     let r = c.in_ok-is_above_all.field-0 in
-    let ones = picked cs is in
+    let ones = candidates_at cs is in
     elim c.if-branch.branch [
       | then-branch+in_ok-push d ↦ rw (d.best-is, d.in_ok-push.ensures.ok) record {
-        told = rw (more, picked-push cs c.loop-place.best i m there) (told_kept {A = ℕ × MethodSig} (λ a. all_of (λ d. more_specific c.args.phase c.args.count a.1 d.1) ones) (picked cs (take k is)) (i, m) w c.args.asks.now c.loop-place.asks c.is_above_all.new.asks (picked cs c.loop-place.best) r d.if-branch.true c.loop-place.invariant.told c.in_ok-is_above_all.ensures);
+        told = rw (more, candidates_at-push cs c.loop-place.best i m there) (told_kept {A = ℕ × MethodSig} (λ a. all_of (λ d. more_specific c.args.phase c.args.count a.1 d.1) ones) (candidates_at cs (take k is)) (i, m) w c.args.asks.now c.loop-place.asks c.is_above_all.new.asks (candidates_at cs c.loop-place.best) r d.if-branch.true c.loop-place.invariant.told c.in_ok-is_above_all.ensures);
         takes = all_push cs c.args.phase c.args.count c.loop-place.best i c.loop-place.invariant.takes taken;
       }
       | else-branch d ↦ rw d.best-is record {
-        told = rw more (told_left {A = ℕ × MethodSig} (λ a. all_of (λ d. more_specific c.args.phase c.args.count a.1 d.1) ones) (picked cs (take k is)) (i, m) w c.args.asks.now c.loop-place.asks c.is_above_all.new.asks (picked cs c.loop-place.best) r d.if-branch.false c.loop-place.invariant.told c.in_ok-is_above_all.ensures);
+        told = rw more (told_left {A = ℕ × MethodSig} (λ a. all_of (λ d. more_specific c.args.phase c.args.count a.1 d.1) ones) (candidates_at cs (take k is)) (i, m) w c.args.asks.now c.loop-place.asks c.is_above_all.new.asks (candidates_at cs c.loop-place.best) r d.if-branch.false c.loop-place.invariant.told c.in_ok-is_above_all.ensures);
         takes = c.loop-place.invariant.takes;
       }
     ]

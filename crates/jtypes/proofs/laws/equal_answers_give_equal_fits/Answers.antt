@@ -1,4 +1,4 @@
-use Rattle.dialogue.specs.Dialogue.{run_alike, asked_alike}
+use Rattle.dialogue.specs.DialogueLaws.{run_alike, asked_alike}
 use Rattle.jtypes.specs.Fits.{strict_fit, loose_fit}
 use Rattle.jtypes.proofs.laws.equal_answers_give_equal_fits.Goals as goal
 

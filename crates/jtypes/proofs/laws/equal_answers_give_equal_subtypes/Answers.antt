@@ -1,4 +1,4 @@
-use Rattle.dialogue.specs.Dialogue.{run_alike, asked_alike}
+use Rattle.dialogue.specs.DialogueLaws.{run_alike, asked_alike}
 use Rattle.jtypes.specs.Subtype.{subtype}
 use Rattle.jtypes.proofs.laws.equal_answers_give_equal_subtypes.Goals as goal
 

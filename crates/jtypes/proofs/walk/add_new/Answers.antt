@@ -16,7 +16,7 @@ loop-name-preserved c =
     let x = c.name-item.result in
     let m = take_more names i x c.loop-name-test.true c.name-item.is in
     elim c.if-not-has.branch [
-      | then-not-has+in_ok-copy+in_ok-put w ↦ let fresh = (λ (k : In x c.loop-name.seen). true_false (sym (c.has.ensures.1 k) ∙ w.if-not-has.true)) in rw (m, w.seen-is, rw w.in_ok-copy.ensures at w.in_ok-put.ensures fresh) (grown_put (take i names) c.args.seen.now c.loop-name.seen x fresh c.loop-name.invariant)
+      | then-not-has+in_ok-copy+in_ok-put w ↦ let fresh = (λ (k : In x c.loop-name.seen). true_false (sym (c.has.ensures.1 k) ∙ w.if-not-has.true)) in rw (m, w.seen-is, rw w.in_ok-copy.ensures at w.in_ok-put.ensures.ok fresh) (grown_put (take i names) c.args.seen.now c.loop-name.seen x fresh c.loop-name.invariant)
       | else-not-has w ↦
           let h : c.has.result ≡ true = search rules in
           let k : In x c.loop-name.seen = c.has.ensures.0 h in
