@@ -18,7 +18,8 @@ use Rattle.rw_base.specs.declared.node_edits.Task.TheVariants as task
 use Rattle.rw_base.specs.Arena.{Arena, AreBelow, leaf_at, parts_of, prefix_of, text_of}
 use Rattle.rw_base.specs.NewText.{leaf_edit, items_text, without_front, join_parts, leaf_new, item_new, items_new, node_new, IsSpot, IsItemOf, AreEdits}
 use Rattle.rw_base.specs.Gaps.{range_of}
-use Rattle.rw_base.specs.Joins.{PartsHold, joined_append}
+use Rattle.rw_base.specs.Arena.{PartsHold}
+use Rattle.rw_base.specs.Joins.{joined_append}
 use Rattle.rw_base.specs.Starts.{leaf_range}
 use Rattle.rw_base.specs.EditLaws.{items_fit, new_parts, new_items, same_leaf, same_node}
 use Rattle.rw_base.specs.PartLaws.{by_nodes}

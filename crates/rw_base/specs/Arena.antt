@@ -1,5 +1,6 @@
 -- A tree as data: its leaves, its nodes and the number of its root.
-use Rattle.std.specs.Prelude.{◌≡◌, ℕ, ◌+◌, ◌-◌, ◌<◌, ◌≤◌, ◌^◌, ◌==◌, List, [], ◌∷◌, ◌++◌, length, slice_range, slice_index_or, if◌then◌else◌}
+use Rattle.std.specs.Prelude.{◌≡◌, ℕ, ◌+◌, ◌-◌, ◌<◌, ◌≤◌, ◌^◌, ◌==◌, List, [], ◌∷◌, ◌++◌, length, slice_range}
+use Rattle.std.specs.Prelude.{slice_index_or, if◌then◌else◌}
 use Rattle.rw_base.specs.declared.tree.Leaf.{Leaf}
 use Rattle.rw_base.specs.declared.tree.Part.{Part}
 use Rattle.rw_base.specs.declared.tree.Part.TheVariants as part
@@ -75,6 +76,12 @@ AreBelow leaf_count n [] = Unit {0}
 AreBelow leaf_count n (part.Leaf i ∷ ps) = (i < leaf_count) × AreBelow leaf_count n ps
 AreBelow leaf_count n (part.Node m ∷ ps) = (m.0 < n) × AreBelow leaf_count n ps
 
+-- what holds of each leaf and each node among parts
+abbrev pub PartsHold : (ℕ → Type 0) → (ℕ → Type 0) → List Part → Type 0
+PartsHold leaf node [] = Unit {0}
+PartsHold leaf node (part.Leaf i ∷ ps) = leaf i × PartsHold leaf node ps
+PartsHold leaf node (part.Node m ∷ ps) = node m.0 × PartsHold leaf node ps
+
 -- The leaves of the parts, in order, are those from first to before past.
 abbrev pub Runs : List NodeRow → List Part → ℕ → ℕ → Type 0
 Runs nodes [] first past = first ≡ past
@@ -102,6 +109,7 @@ pub record IsTree (t : Arena) : Type 0 where
   pub below : (n : ℕ) → n < length t.nodes → AreBelow (length t.leaves) n (parts_of t.nodes n)
   pub ordered : (n : ℕ) → n < length t.nodes → first_of t.nodes n ≤ past_of t.nodes n
   pub inside : (n : ℕ) → n < length t.nodes → past_of t.nodes n ≤ length t.leaves
-  pub spans : (n : ℕ) → n < length t.nodes → Runs t.nodes (parts_of t.nodes n) (first_of t.nodes n) (past_of t.nodes n)
+  pub spans : (n : ℕ) → n < length t.nodes
+      → Runs t.nodes (parts_of t.nodes n) (first_of t.nodes n) (past_of t.nodes n)
   pub once : (n : ℕ) → n < length t.nodes → times n t.nodes ≡ (if n == t.root then 0 else 1)
   pub whole : (first_of t.nodes t.root ≡ 0) × (past_of t.nodes t.root ≡ length t.leaves)

@@ -5,9 +5,8 @@ use Rattle.rw_base.specs.declared.edit.Spot.{Spot}
 use Rattle.rw_base.specs.declared.edit.Spot.TheVariants as spot
 use Rattle.rw_base.specs.declared.edit.Edit.{Edit}
 use Rattle.rw_base.specs.declared.tree.Part.{Part}
-use Rattle.rw_base.specs.Arena.{Arena, parts_of}
+use Rattle.rw_base.specs.Arena.{Arena, parts_of, PartsHold}
 use Rattle.rw_base.specs.NewText.{edit_at}
-use Rattle.rw_base.specs.Joins.{PartsHold}
 
 abbrev pub no_edit : Edit
 no_edit = record { spot = spot.Leaf 0; items = [] }
@@ -32,9 +31,14 @@ pub record AreChosen (to : ℕ → Spot) (count : ℕ) (edits : List Edit) (chos
 
 -- no edit is at these leaves, and these nodes aren't touched
 abbrev pub AreUntouched : List (Option ℕ) → List Bool → List Part → Type 0
-AreUntouched leaves touched parts = PartsHold (λ i. slice_index_or leaves i None ≡ None) (λ m. slice_index_or touched m true ≡ false) parts
+AreUntouched leaves touched parts =
+    PartsHold (λ i. slice_index_or leaves i None ≡ None) (λ m. slice_index_or touched m true ≡ false) parts
 
 -- Each of the first so many nodes that isn't touched has no edit, and its parts are untouched.
 abbrev pub KnowsUntouched : Arena → List (Option ℕ) → List (Option ℕ) → ℕ → List Bool → Type 0
 KnowsUntouched t leaves nodes count touched =
-    (n : ℕ) → n < count → slice_index_or touched n true ≡ false → (slice_index_or nodes n None ≡ None) × AreUntouched leaves touched (parts_of t.nodes n)
+    (n : ℕ) → n < count → slice_index_or touched n true ≡ false
+    → (slice_index_or nodes n None ≡ None) × AreUntouched leaves touched (parts_of t.nodes n)
+
+abbrev pub KnowsAllUntouched : Arena → List (Option ℕ) → List (Option ℕ) → List Bool → Type 0
+KnowsAllUntouched t leaves nodes touched = KnowsUntouched t leaves nodes (length t.nodes) touched

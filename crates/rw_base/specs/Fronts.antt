@@ -1,4 +1,5 @@
--- How far bytes can be the front of a text of a form. Each exact place of a small language is the length of such a front.
+-- How far bytes can be the front of a text of a form. An exact place of a small language is the length of such a
+-- front.
 use Rattle.std.specs.Prelude.{ℕ, ◌+◌, ◌<◌, ◌≤◌, List, ◌++◌, length, take}
 
 -- a form: which texts spell which value

@@ -22,7 +22,8 @@ rows_from n at none = []
 rows_from n at (leaf i f) = rows_from n (at + 1) f
 rows_from n at (node _ k kids f) =
     rows_from n at kids
-    ++ (record { kind = k; first = at; past = at + width kids; parts = parts_from n kids } ∷ rows_from (n + (size kids + 1)) (at + width kids) f)
+    ++ (record { kind = k; first = at; past = at + width kids; parts = parts_from n kids }
+    ∷ rows_from (n + (size kids + 1)) (at + width kids) f)
 
 -- the rows of one node of this kind over these trees
 abbrev pub laid_rows : ℕ → Forest → List NodeRow

@@ -9,8 +9,12 @@ pub mod Laid
 pub mod LaidLaws
 pub mod LaidTrees
 pub mod PartLaws
+pub mod RelabelLaws
+pub mod WalkLaws
+pub mod PastLaws
 pub mod NewText
 pub mod Gaps
+pub mod Claims
 pub mod Joins
 pub mod Starts
 pub mod EditLaws
@@ -20,5 +24,9 @@ pub mod Places
 pub mod NaturalLines
 pub mod Expressions
 pub mod Fronts
+pub mod FrontLaws
 pub mod Tasks
+pub mod Editings
+pub mod SameEdits
+pub mod RankedEdits
 pub mod Laws

@@ -31,5 +31,6 @@ lines_of [] = record { text = []; ending = [] } ∷ []
 lines_of (b ∷ rest) =
     if b == 10 then record { text = []; ending = b ∷ [] } ∷ lines_of rest
     else if b == 13
-    then (if begins_with_lf rest then with_ending b (lines_of rest) else record { text = []; ending = b ∷ [] } ∷ lines_of rest)
+    then (if begins_with_lf rest then with_ending b (lines_of rest)
+    else record { text = []; ending = b ∷ [] } ∷ lines_of rest)
     else with_text b (lines_of rest)

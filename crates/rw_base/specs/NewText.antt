@@ -1,5 +1,6 @@
 -- The new text of a tree with edits.
-use Rattle.std.specs.Prelude.{◌≢◌, ℕ, ◌+◌, ◌<◌, ◌==◌, Bool, false, List, [], ◌∷◌, ◌++◌, length, take, drop, Option, Some, None, option_map, unwrap_or, All, if◌then◌else◌}
+use Rattle.std.specs.Prelude.{◌≡◌, ◌≢◌, ℕ, ◌+◌, ◌<◌, ◌≤◌, ◌==◌, Bool, false, List, [], ◌∷◌, ◌++◌, length, take, drop}
+use Rattle.std.specs.Prelude.{Option, Some, None, option_map, unwrap_or, All, if◌then◌else◌}
 use Rattle.std.specs.Str.{bytes_eq}
 use Rattle.rw_base.specs.declared.tree.Leaf.{Leaf}
 use Rattle.rw_base.specs.declared.tree.Part.{Part}
@@ -50,7 +51,9 @@ without_front front text = if bytes_eq front (take (length front) text) then dro
 
 -- the prefix of a node's first leaf; none where it has no leaf
 unfoldable pub front_of : Arena → List ℕ → ℕ → List ℕ
-front_of t bytes n = if first_of t.nodes n == past_of t.nodes n then [] else prefix_of bytes (leaf_at t.leaves (first_of t.nodes n))
+front_of t bytes n =
+    let first = first_of t.nodes n in
+    if first == past_of t.nodes n then [] else prefix_of bytes (leaf_at t.leaves first)
 
 -- parts one after another, by what each leaf and each node gives
 abbrev pub join_parts : {A : Type 0} → (ℕ → List A) → (ℕ → List A) → List Part → List A
@@ -62,7 +65,9 @@ join_parts leaf node (part.Node m ∷ ps) = node m.0 ++ join_parts leaf node ps
 module _ (t : Arena) (bytes : List ℕ) (edits : List Edit) where
   -- a leaf keeps its prefix, and has the text of its edit, or its own
   unfoldable pub leaf_new : ℕ → List ℕ
-  leaf_new i = prefix_of bytes (leaf_at t.leaves i) ++ unwrap_or (leaf_edit edits i) (text_of bytes (leaf_at t.leaves i))
+  leaf_new i =
+      let l = leaf_at t.leaves i in
+      prefix_of bytes l ++ unwrap_or (leaf_edit edits i) (text_of bytes l)
 
   -- an item, where each node has this text
   abbrev pub item_new : (ℕ → List ℕ) → Item → List ℕ
@@ -109,14 +114,26 @@ IsItemOf t (spot.Leaf j) (item.LeafBody i) = ⊥
 -- Each edit is at a node or leaf of the tree and has items for it, and no two are at one spot.
 unfoldable pub AreEdits : Arena → List Edit → Type 0
 AreEdits t [] = Unit {0}
-AreEdits t (e ∷ es) = IsSpot t e.spot × All (IsItemOf t e.spot) e.items × All (λ f. f.spot ≢ e.spot) es × AreEdits t es
+AreEdits t (e ∷ es) =
+    IsSpot t e.spot × All (IsItemOf t e.spot) e.items × All (λ f. f.spot ≢ e.spot) es × AreEdits t es
+
+-- edits that put the same at each spot
+abbrev pub AreSameEdits : List Edit → List Edit → Type 0
+AreSameEdits es fs = (s : Spot) → edit_at es s ≡ edit_at fs s
+
+-- Each edit is at a spot of the tree, has items for it, and has a greater rank than those before it, this one at least.
+unfoldable pub AreRanked : Arena → (Spot → ℕ) → ℕ → List Edit → Type 0
+AreRanked t rank from [] = Unit {0}
+AreRanked t rank from (e ∷ es) =
+    (from ≤ rank e.spot) × IsSpot t e.spot × All (IsItemOf t e.spot) e.items × AreRanked t rank (rank e.spot + 1) es
 
 -- ---- edits at leaves alone
 
 -- Each leaf has its prefix, and then the text of its edit, or its own text. The first leaf here is number i.
 unfoldable pub leaves_new : List Edit → List ℕ → ℕ → List Leaf → List ℕ
 leaves_new edits bytes i [] = []
-leaves_new edits bytes i (l ∷ ls) = (prefix_of bytes l ++ unwrap_or (leaf_edit edits i) (text_of bytes l)) ++ leaves_new edits bytes (i + 1) ls
+leaves_new edits bytes i (l ∷ ls) =
+    (prefix_of bytes l ++ unwrap_or (leaf_edit edits i) (text_of bytes l)) ++ leaves_new edits bytes (i + 1) ls
 
 abbrev pub IsLeafBelow : ℕ → Spot → Type 0
 IsLeafBelow count (spot.Leaf k) = k < count
@@ -129,4 +146,5 @@ IsText _ = ⊥
 -- Each edit is at a leaf of the tree and has texts alone, and no two are at one leaf.
 unfoldable pub AreLeafEdits : ℕ → List Edit → Type 0
 AreLeafEdits count [] = Unit {0}
-AreLeafEdits count (e ∷ es) = IsLeafBelow count e.spot × All IsText e.items × All (λ f. f.spot ≢ e.spot) es × AreLeafEdits count es
+AreLeafEdits count (e ∷ es) =
+    IsLeafBelow count e.spot × All IsText e.items × All (λ f. f.spot ≢ e.spot) es × AreLeafEdits count es

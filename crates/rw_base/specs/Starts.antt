@@ -1,5 +1,6 @@
 -- Where leaves that lie one behind another begin and end.
-use Rattle.std.proofs.Common.{◌≡◌, ℕ, zero, suc, ◌+◌, ◌<◌, ◌≤◌, List, [], ◌∷◌, ◌++◌, length, take, get_or, refl, sym, ap, ◌∙◌, arith, add-one}
+use Rattle.std.proofs.Common.{◌≡◌, ℕ, zero, suc, ◌+◌, ◌<◌, ◌≤◌, List, [], ◌∷◌, ◌++◌, length, take, get_or, refl, sym}
+use Rattle.std.proofs.Common.{ap, ◌∙◌, arith, add-one}
 use Rattle.std.specs.Prelude.{slice_range}
 use Rattle.std.proofs.lemmas.List.{take_all}
 use Rattle.rw_base.specs.declared.tree.Leaf.{Leaf}
@@ -20,7 +21,8 @@ there at (l ∷ ls) (suc i) d h lt =
     let t = there l.to ls i d h.3 (omega arith) in
     record { begins = t.begins; ends = rw add-one (rw add-one at t.ends); prefix = t.prefix; text = t.text }
 
-starts_rise : (at : ℕ) (ls : List Leaf) (a b : ℕ) → Tile at ls → a ≤ b → end_from at (take a ls) ≤ end_from at (take b ls)
+starts_rise : (at : ℕ) (ls : List Leaf) (a b : ℕ) → Tile at ls → a ≤ b
+    → end_from at (take a ls) ≤ end_from at (take b ls)
 starts_rise at [] zero zero h le = omega arith
 starts_rise at [] zero (suc b) h le = omega arith
 starts_rise at [] (suc a) zero h le = omega arith
@@ -37,17 +39,22 @@ pub start_last : (ls : List Leaf) (n : ℕ) → length ls ≤ n → start_of ls 
 start_last ls n le = ap (end_from 0) (take_all n ls le)
 
 pub start_inside : (t : Arena) → IsTree t → (a : ℕ) → a ≤ length t.leaves → start_of t.leaves a ≤ end_of t
-start_inside t tree a le = omega (arith, start_rises t.leaves a (length t.leaves) tree.tile le, start_last t.leaves (length t.leaves) (omega arith))
+start_inside t tree a le = omega
+    (arith, start_rises t.leaves a (length t.leaves) tree.tile le, start_last t.leaves (length t.leaves) (omega arith))
 
 -- the bytes from the start of one leaf to that of another
 abbrev pub leaf_range : List Leaf → List ℕ → ℕ → ℕ → List ℕ
 leaf_range ls bytes a b = slice_range bytes (start_of ls a) (start_of ls b)
 
-pub ranges_meet : (ls : List Leaf) (bytes : List ℕ) → Tile 0 ls → (a b c : ℕ) → a ≤ b → b ≤ c → leaf_range ls bytes a b ++ leaf_range ls bytes b c ≡ leaf_range ls bytes a c
-ranges_meet ls bytes h a b c ab bc = joined_slices bytes (start_of ls a) (start_of ls b) (start_of ls c) (start_rises ls a b h ab) (start_rises ls b c h bc)
+pub ranges_meet : (ls : List Leaf) (bytes : List ℕ) → Tile 0 ls → (a b c : ℕ) → a ≤ b → b ≤ c
+    → leaf_range ls bytes a b ++ leaf_range ls bytes b c ≡ leaf_range ls bytes a c
+ranges_meet ls bytes h a b c ab bc =
+    joined_slices bytes (start_of ls a) (start_of ls b) (start_of ls c) (start_rises ls a b h ab)
+    (start_rises ls b c h bc)
 
 -- a leaf's prefix and text are its bytes
-pub one_range : (ls : List Leaf) (bytes : List ℕ) → Tile 0 ls → (i : ℕ) → i < length ls → prefix_of bytes (leaf_at ls i) ++ text_of bytes (leaf_at ls i) ≡ leaf_range ls bytes i (i + 1)
+pub one_range : (ls : List Leaf) (bytes : List ℕ) → Tile 0 ls → (i : ℕ) → i < length ls
+    → prefix_of bytes (leaf_at ls i) ++ text_of bytes (leaf_at ls i) ≡ leaf_range ls bytes i (i + 1)
 unfolding leaf_at
 one_range ls bytes h i lt =
     let l = get_or ls i no_leaf in
@@ -55,5 +62,7 @@ one_range ls bytes h i lt =
     joined_slices bytes l.prefix_from l.from l.to at.prefix at.text
     ∙ (ap (λ a. slice_range bytes a l.to) (sym at.begins) ∙ ap (slice_range bytes (start_of ls i)) (sym at.ends))
 
-pub whole_range : (t : Arena) (bytes : List ℕ) → length bytes ≡ end_of t → leaf_range t.leaves bytes 0 (length t.leaves) ≡ bytes
-whole_range t bytes size = whole_slice bytes (start_of t.leaves (length t.leaves)) (start_last t.leaves (length t.leaves) (omega arith) ∙ sym size)
+pub whole_range : (t : Arena) (bytes : List ℕ) → length bytes ≡ end_of t
+    → leaf_range t.leaves bytes 0 (length t.leaves) ≡ bytes
+whole_range t bytes size = whole_slice bytes (start_of t.leaves (length t.leaves))
+    (start_last t.leaves (length t.leaves) (omega arith) ∙ sym size)

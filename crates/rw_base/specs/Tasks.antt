@@ -1,5 +1,6 @@
 -- What is left to do where a new text is made from its end to its front.
-use Rattle.std.specs.Prelude.{◌≡◌, ℕ, ◌-◌, ◌<◌, ◌≤◌, Bool, List, [], ◌∷◌, ◌++◌, length, take, drop, slice_index_or, Option, All}
+use Rattle.std.specs.Prelude.{◌≡◌, ℕ, ◌-◌, ◌<◌, ◌≤◌, Bool, List, [], ◌∷◌, ◌++◌, length, take, drop, slice_index_or}
+use Rattle.std.specs.Prelude.{Option, All}
 use Rattle.rw_base.specs.declared.tree.Part.{Part}
 use Rattle.rw_base.specs.declared.tree.Part.TheVariants as part
 use Rattle.rw_base.specs.declared.edit.Item.{Item}
@@ -54,8 +55,10 @@ module _ (t : Arena) (bytes : List ℕ) (edits : List Edit) where
 
   -- the text after a task
   unfoldable pub after_task : Task → List ℕ → List ℕ
-  after_task (task.Parts n count) text = join_parts (leaf_new t bytes edits) (node_new t bytes edits) (take count (parts_of t.nodes n.0)) ++ text
-  after_task (task.Items k count) text = items_new t bytes edits (node_new t bytes edits) (take count (edit_items edits k)) ++ text
+  after_task (task.Parts n count) text =
+      join_parts (leaf_new t bytes edits) (node_new t bytes edits) (take count (parts_of t.nodes n.0)) ++ text
+  after_task (task.Items k count) text =
+      items_new t bytes edits (node_new t bytes edits) (take count (edit_items edits k)) ++ text
   after_task (task.Prefix i) text = prefix_of bytes (leaf_at t.leaves i) ++ text
   after_task (task.Cut n behind) text = cut (front_of t bytes n.0) behind text
 

@@ -2,7 +2,7 @@
 ghost use Rattle.std.specs.Prelude.{◌≡◌, false, length, IfOk};
 ghost use Rattle.rw_base.specs.Arena.{IsTree, AreBelow};
 ghost use Rattle.rw_base.specs.NewText.{AreEdits};
-ghost use Rattle.rw_base.specs.Chosen.{AreChosen, leaf_spot, node_spot, AreUntouched, KnowsUntouched};
+ghost use Rattle.rw_base.specs.Chosen.{AreChosen, leaf_spot, node_spot, AreUntouched, KnowsAllUntouched};
 
 use crate::{Edit, Mem, NodeId, Part, Spot, Tree};
 use std::alloc::Global;
@@ -63,7 +63,7 @@ pub fn touched_nodes(
     requires leaves { length leaves.now ≡ length tree.now.leaves }
     requires nodes { length nodes.now ≡ length tree.now.nodes }
     ensures long { IfOk result (λ touched. length touched.items ≡ length tree.now.nodes) }
-    ensures untouched { IfOk result (λ touched. KnowsUntouched tree.now leaves.now nodes.now (length tree.now.nodes) touched.items) }
+    ensures untouched { IfOk result (λ touched. KnowsAllUntouched tree.now leaves.now nodes.now touched.items) }
 {
     let count = tree.node_count();
     let mut touched = Vec::with_capacity(alloc, count as usize)?;

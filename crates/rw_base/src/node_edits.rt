@@ -2,8 +2,10 @@
 ghost use Rattle.std.specs.Prelude.{◌≡◌, ◌<◌, ◌≤◌, ◌++◌, length, slice_range, IfOk, OnOk, All};
 ghost use Rattle.rw_base.specs.Arena.{end_of, leaf_at, prefix_of, text_of};
 ghost use Rattle.rw_base.specs.Gaps.{range_of};
-ghost use Rattle.rw_base.specs.NewText.{without_front, front_of, leaf_new, node_new, item_new, new_text, AreEdits};
-ghost use Rattle.rw_base.specs.Tasks.{cut, part_new, after_task, IsTask, IsInTree, IsPartOf, Follows, IsChosen};
+ghost use Rattle.rw_base.specs.NewText.{front_of, new_text, AreEdits};
+ghost use Rattle.rw_base.specs.Editings.{AreTheirPlaces, IsEditing, Puts, Does};
+ghost use Rattle.rw_base.specs.Editings.{node_text, leaf_text, leaf_body, part_text, item_text_of};
+ghost use Rattle.rw_base.specs.Tasks.{cut, IsTask, IsInTree, IsPartOf};
 
 use crate::chosen::{edits_at_leaves, edits_at_nodes, touched_nodes};
 use crate::front_buffer::FrontBuffer;
@@ -40,7 +42,7 @@ struct Chosen {
 
 fn chosen_edits(alloc: Global, tree: &Tree, edits: &[Edit]) -> Mem<Chosen>
     requires { AreEdits tree.now edits.now }
-    ensures { IfOk result (λ chosen. IsChosen tree.now edits.now chosen.leaves.items chosen.nodes.items chosen.touched.items) }
+    ensures { IfOk result (AreTheirPlaces tree.now edits.now) }
 {
     let leaves = edits_at_leaves(alloc, tree, edits)?;
     let nodes = edits_at_nodes(alloc, tree, edits)?;
@@ -50,6 +52,15 @@ fn chosen_edits(alloc: Global, tree: &Tree, edits: &[Edit]) -> Mem<Chosen>
         nodes,
         touched,
     })
+}
+
+// Edits of a tree that was read from these bytes, and where they are.
+#[derive(Drop)]
+struct Editing<'e> {
+    tree: &'e Tree,
+    bytes: &'e [u8],
+    edits: &'e [Edit],
+    chosen: Chosen,
 }
 
 fn range_at<'b>(bytes: &'b [u8], from: usize, to: usize) -> &'b [u8]
@@ -79,7 +90,7 @@ fn node_bytes<'b>(tree: &Tree, bytes: &'b [u8], n: NodeId) -> &'b [u8]
 fn leaf_bytes<'b>(tree: &Tree, bytes: &'b [u8], i: u32) -> &'b [u8]
     requires bytes { length bytes.now ≡ end_of tree.now }
     requires leaf { i < length tree.now.leaves }
-    ensures { result.now ≡ prefix_of bytes.now (leaf_at tree.now.leaves i) ++ text_of bytes.now (leaf_at tree.now.leaves i) }
+    ensures { let l = leaf_at tree.now.leaves i in result.now ≡ prefix_of bytes.now l ++ text_of bytes.now l }
 {
     let leaf = tree.leaf(i);
     &bytes[leaf.prefix_from as usize..leaf.to as usize]
@@ -109,166 +120,111 @@ fn take_off(text: &mut FrontBuffer, front: &[u8], behind: usize)
     }
 }
 
-fn put_node(
-    alloc: Global,
-    tree: &Tree,
-    bytes: &[u8],
-    edits: &[Edit],
-    chosen: &Chosen,
-    n: NodeId,
-    work: &mut Work,
-) -> Mem<()>
-    requires bytes { length bytes.now ≡ end_of tree.now }
-    requires edits { AreEdits tree.now edits.now }
-    requires chosen { IsChosen tree.now edits.now chosen.now.leaves.items chosen.now.nodes.items chosen.now.touched.items }
-    requires node { n.0 < length tree.now.nodes }
-    ensures { OnOk result (Follows tree.now bytes.now edits.now work.old.tasks.items (node_new tree.now bytes.now edits.now n.0 ++ work.old.text) work.new.tasks.items work.new.text) }
+fn put_node(alloc: Global, editing: &Editing<'_>, n: NodeId, work: &mut Work) -> Mem<()>
+    requires editing { IsEditing editing.now }
+    requires node { n.0 < length editing.now.tree.now.nodes }
+    ensures { OnOk result (Puts editing.now (node_text editing.now n.0) work.old work.new) }
 {
-    if let Some(k) = chosen.nodes[n.0 as usize] {
-        work.tasks.push(Task::Items(k, edits[k].items.len()))?;
-    } else if chosen.touched[n.0 as usize] {
-        work.tasks.push(Task::Parts(n, tree.parts(n).len()))?;
+    if let Some(k) = editing.chosen.nodes[n.0 as usize] {
+        work.tasks
+            .push(Task::Items(k, editing.edits[k].items.len()))?;
+    } else if editing.chosen.touched[n.0 as usize] {
+        work.tasks
+            .push(Task::Parts(n, editing.tree.parts(n).len()))?;
     } else {
-        work.text.prepend(alloc, node_bytes(tree, bytes, n))?;
+        work.text
+            .prepend(alloc, node_bytes(editing.tree, editing.bytes, n))?;
     }
     Ok(())
 }
 
-fn put_leaf(
-    alloc: Global,
-    tree: &Tree,
-    bytes: &[u8],
-    edits: &[Edit],
-    chosen: &Chosen,
-    i: u32,
-    work: &mut Work,
-) -> Mem<()>
-    requires bytes { length bytes.now ≡ end_of tree.now }
-    requires edits { AreEdits tree.now edits.now }
-    requires chosen { IsChosen tree.now edits.now chosen.now.leaves.items chosen.now.nodes.items chosen.now.touched.items }
-    requires leaf { i < length tree.now.leaves }
-    ensures { OnOk result (Follows tree.now bytes.now edits.now work.old.tasks.items (leaf_new tree.now bytes.now edits.now i ++ work.old.text) work.new.tasks.items work.new.text) }
+fn put_leaf(alloc: Global, editing: &Editing<'_>, i: u32, work: &mut Work) -> Mem<()>
+    requires editing { IsEditing editing.now }
+    requires leaf { i < length editing.now.tree.now.leaves }
+    ensures { OnOk result (Puts editing.now (leaf_text editing.now i) work.old work.new) }
 {
-    if let Some(k) = chosen.leaves[i as usize] {
+    if let Some(k) = editing.chosen.leaves[i as usize] {
         work.tasks.push(Task::Prefix(i))?;
-        work.tasks.push(Task::Items(k, edits[k].items.len()))?;
+        work.tasks
+            .push(Task::Items(k, editing.edits[k].items.len()))?;
     } else {
-        work.text.prepend(alloc, leaf_bytes(tree, bytes, i))?;
+        work.text
+            .prepend(alloc, leaf_bytes(editing.tree, editing.bytes, i))?;
     }
     Ok(())
 }
 
 // The same without the leaf's prefix.
-fn put_leaf_body(
-    alloc: Global,
-    tree: &Tree,
-    bytes: &[u8],
-    edits: &[Edit],
-    chosen: &Chosen,
-    i: u32,
-    work: &mut Work,
-) -> Mem<()>
-    requires bytes { length bytes.now ≡ end_of tree.now }
-    requires edits { AreEdits tree.now edits.now }
-    requires chosen { IsChosen tree.now edits.now chosen.now.leaves.items chosen.now.nodes.items chosen.now.touched.items }
-    requires leaf { i < length tree.now.leaves }
-    ensures { OnOk result (Follows tree.now bytes.now edits.now work.old.tasks.items (without_front (prefix_of bytes.now (leaf_at tree.now.leaves i)) (leaf_new tree.now bytes.now edits.now i) ++ work.old.text) work.new.tasks.items work.new.text) }
+fn put_leaf_body(alloc: Global, editing: &Editing<'_>, i: u32, work: &mut Work) -> Mem<()>
+    requires editing { IsEditing editing.now }
+    requires leaf { i < length editing.now.tree.now.leaves }
+    ensures { OnOk result (Puts editing.now (leaf_body editing.now i) work.old work.new) }
 {
-    if let Some(k) = chosen.leaves[i as usize] {
-        work.tasks.push(Task::Items(k, edits[k].items.len()))?;
+    if let Some(k) = editing.chosen.leaves[i as usize] {
+        work.tasks
+            .push(Task::Items(k, editing.edits[k].items.len()))?;
     } else {
-        work.text.prepend(alloc, tree.text(bytes, i))?;
+        work.text
+            .prepend(alloc, editing.tree.text(editing.bytes, i))?;
     }
     Ok(())
 }
 
-fn put_part(
-    alloc: Global,
-    tree: &Tree,
-    bytes: &[u8],
-    edits: &[Edit],
-    chosen: &Chosen,
-    part: Part,
-    work: &mut Work,
-) -> Mem<()>
-    requires bytes { length bytes.now ≡ end_of tree.now }
-    requires edits { AreEdits tree.now edits.now }
-    requires chosen { IsChosen tree.now edits.now chosen.now.leaves.items chosen.now.nodes.items chosen.now.touched.items }
-    requires part { IsPartOf tree.now part }
-    ensures { OnOk result (Follows tree.now bytes.now edits.now work.old.tasks.items (part_new tree.now bytes.now edits.now part ++ work.old.text) work.new.tasks.items work.new.text) }
+fn put_part(alloc: Global, editing: &Editing<'_>, part: Part, work: &mut Work) -> Mem<()>
+    requires editing { IsEditing editing.now }
+    requires part { IsPartOf editing.now.tree.now part }
+    ensures { OnOk result (Puts editing.now (part_text editing.now part) work.old work.new) }
 {
     match part {
-        Part::Leaf(i) => put_leaf(alloc, tree, bytes, edits, chosen, i, work),
-        Part::Node(m) => put_node(alloc, tree, bytes, edits, chosen, m, work),
+        Part::Leaf(i) => put_leaf(alloc, editing, i, work),
+        Part::Node(m) => put_node(alloc, editing, m, work),
     }
 }
 
-fn put_item(
-    alloc: Global,
-    tree: &Tree,
-    bytes: &[u8],
-    edits: &[Edit],
-    chosen: &Chosen,
-    item: &Item,
-    work: &mut Work,
-) -> Mem<()>
-    requires bytes { length bytes.now ≡ end_of tree.now }
-    requires edits { AreEdits tree.now edits.now }
-    requires chosen { IsChosen tree.now edits.now chosen.now.leaves.items chosen.now.nodes.items chosen.now.touched.items }
-    requires item { IsInTree tree.now edits.now item.now }
-    ensures { OnOk result (Follows tree.now bytes.now edits.now work.old.tasks.items (item_new tree.now bytes.now edits.now (node_new tree.now bytes.now edits.now) item.now ++ work.old.text) work.new.tasks.items work.new.text) }
+fn put_item(alloc: Global, editing: &Editing<'_>, item: &Item, work: &mut Work) -> Mem<()>
+    requires editing { IsEditing editing.now }
+    requires item { IsInTree editing.now.tree.now editing.now.edits.now item.now }
+    ensures { OnOk result (Puts editing.now (item_text_of editing.now item.now) work.old work.new) }
 {
     match item {
         Item::Text(text) => work.text.prepend(alloc, text.as_slice()),
-        Item::Node(m) => put_node(alloc, tree, bytes, edits, chosen, *m, work),
+        Item::Node(m) => put_node(alloc, editing, *m, work),
         Item::NodeBody(m) => {
             work.tasks.push(Task::Cut(*m, work.text.len()))?;
-            put_node(alloc, tree, bytes, edits, chosen, *m, work)
+            put_node(alloc, editing, *m, work)
         }
-        Item::Leaf(i) => put_leaf(alloc, tree, bytes, edits, chosen, *i, work),
-        Item::LeafBody(i) => put_leaf_body(alloc, tree, bytes, edits, chosen, *i, work),
+        Item::Leaf(i) => put_leaf(alloc, editing, *i, work),
+        Item::LeafBody(i) => put_leaf_body(alloc, editing, *i, work),
     }
 }
 
-fn do_task(
-    alloc: Global,
-    tree: &Tree,
-    bytes: &[u8],
-    edits: &[Edit],
-    chosen: &Chosen,
-    task: Task,
-    work: &mut Work,
-) -> Mem<()>
-    requires bytes { length bytes.now ≡ end_of tree.now }
-    requires edits { AreEdits tree.now edits.now }
-    requires chosen { IsChosen tree.now edits.now chosen.now.leaves.items chosen.now.nodes.items chosen.now.touched.items }
-    requires task { IsTask tree.now edits.now task }
-    ensures { OnOk result (Follows tree.now bytes.now edits.now work.old.tasks.items (after_task tree.now bytes.now edits.now task work.old.text) work.new.tasks.items work.new.text) }
+fn do_task(alloc: Global, editing: &Editing<'_>, task: Task, work: &mut Work) -> Mem<()>
+    requires editing { IsEditing editing.now }
+    requires task { IsTask editing.now.tree.now editing.now.edits.now task }
+    ensures { OnOk result (Does editing.now task work.old work.new) }
 {
     match task {
         Task::Parts(n, count) => {
             if 0 < count {
                 work.tasks.push(Task::Parts(n, count - 1))?;
-                put_part(
-                    alloc,
-                    tree,
-                    bytes,
-                    edits,
-                    chosen,
-                    tree.parts(n)[count - 1],
-                    work,
-                )?;
+                put_part(alloc, editing, editing.tree.parts(n)[count - 1], work)?;
             }
         }
         Task::Items(k, count) => {
             if 0 < count {
                 work.tasks.push(Task::Items(k, count - 1))?;
-                let item = &edits[k].items.as_slice()[count - 1];
-                put_item(alloc, tree, bytes, edits, chosen, item, work)?;
+                let item = &editing.edits[k].items.as_slice()[count - 1];
+                put_item(alloc, editing, item, work)?;
             }
         }
-        Task::Prefix(i) => work.text.prepend(alloc, tree.prefix(bytes, i))?,
-        Task::Cut(n, behind) => take_off(&mut work.text, front(tree, bytes, n), behind),
+        Task::Prefix(i) => work
+            .text
+            .prepend(alloc, editing.tree.prefix(editing.bytes, i))?,
+        Task::Cut(n, behind) => take_off(
+            &mut work.text,
+            front(editing.tree, editing.bytes, n),
+            behind,
+        ),
     }
     Ok(())
 }
@@ -281,16 +237,22 @@ pub fn with_nodes_edited(alloc: Global, tree: &Tree, bytes: &[u8], edits: &[Edit
     ensures { IfOk result (λ text. text.items ≡ new_text tree.now bytes.now edits.now) }
 {
     let chosen = chosen_edits(alloc, tree, edits)?;
+    let editing = Editing {
+        tree,
+        bytes,
+        edits,
+        chosen,
+    };
     let mut work = Work {
         tasks: Vec::new(alloc),
         text: FrontBuffer::with_room(alloc, bytes.len() + bytes.len() / 4)?,
     };
-    put_node(alloc, tree, bytes, edits, &chosen, tree.root(), &mut work)?;
+    put_node(alloc, &editing, tree.root(), &mut work)?;
     for _ in 0..u64::MAX {
         let Some(task) = work.tasks.pop() else {
             return work.text.into_vec(alloc);
         };
-        do_task(alloc, tree, bytes, edits, &chosen, task, &mut work)?;
+        do_task(alloc, &editing, task, &mut work)?;
     }
     Err(NoMemory)
 }

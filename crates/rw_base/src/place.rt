@@ -87,16 +87,19 @@ fn is_continuation(b: u8) -> bool
     128 <= b && b <= 191
 }
 
-/// The place of a byte, or of the end. Takes no memory.
-#[tactic(auto, using(crate::proofs::PlaceLemmas::steps), unfolding(crate::specs::Places::line_of, crate::specs::Places::column_of))]
-pub fn place_of(bytes: &[u8], at: usize) -> Place
+/// The place of a byte, or of the end, from a place of the same bytes at or before it. It looks at the bytes between
+/// the two alone, so that the places of one file, taken in order, cost one pass. Takes no memory.
+#[tactic(auto, using(crate::proofs::PlaceLemmas::steps))]
+pub fn place_after(bytes: &[u8], place: Place, at: usize) -> Place
+    requires place { place ≡ place_at bytes.now place.byte }
+    requires order { place.byte ≤ at }
     requires inside { at ≤ length bytes.now }
     requires size { at < u32.MAX }
     ensures { result ≡ place_at bytes.now at }
 {
-    let mut line = 1;
-    let mut column = 1;
-    for k in 0..at {
+    let mut line = place.line;
+    let mut column = place.column;
+    for k in place.byte as usize..at {
         if ends_line(bytes, k) {
             line += 1;
             column = 1;
@@ -109,4 +112,19 @@ pub fn place_of(bytes: &[u8], at: usize) -> Place
         column,
         byte: at as u32,
     }
+}
+
+/// The place of a byte, or of the end. Takes no memory.
+#[tactic(auto, unfolding(crate::specs::Places::line_of, crate::specs::Places::column_of))]
+pub fn place_of(bytes: &[u8], at: usize) -> Place
+    requires inside { at ≤ length bytes.now }
+    requires size { at < u32.MAX }
+    ensures { result ≡ place_at bytes.now at }
+{
+    let first = Place {
+        line: 1,
+        column: 1,
+        byte: 0,
+    };
+    place_after(bytes, first, at)
 }

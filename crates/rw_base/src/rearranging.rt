@@ -1,8 +1,8 @@
 // The new text of a tree with edits.
-ghost use Rattle.std.specs.Prelude.{◌≡◌, ℕ, List, length, IfOk, IsTrue};
-ghost use Rattle.rw_base.specs.Arena.{Arena, IsTree, end_of};
+ghost use Rattle.std.specs.Prelude.{◌≡◌, length, IfOk, IsTrue};
+ghost use Rattle.rw_base.specs.Arena.{end_of};
 ghost use Rattle.rw_base.specs.NewText.{new_text, AreEdits, AreLeafEdits};
-ghost use Rattle.rw_base.specs.Gaps.{old_bytes, new_bytes, pieces_of};
+ghost use Rattle.rw_base.specs.Claims.{PiecesAreOldBytes, PiecesAreNewText, SameEditsMakeOneText, RankedAreEdits};
 
 use crate::leaf_edits::with_leaves_edited;
 use crate::node_edits::with_nodes_edited;
@@ -43,6 +43,16 @@ pub fn rearranged(alloc: Global, tree: &Tree, bytes: &[u8], edits: &[Edit]) -> M
 /// text of each outermost spot in the place of its range: of a node from its first prefix to its last text, of a leaf
 /// its text.
 pub fn gaps_stay()
-    ensures old { (t : Arena) (bytes : List ℕ) (edits : List Edit) → IsTree t → AreEdits t edits → length bytes ≡ end_of t → old_bytes (pieces_of t bytes edits) ≡ bytes }
-    ensures new { (t : Arena) (bytes : List ℕ) (edits : List Edit) → IsTree t → AreEdits t edits → new_bytes (pieces_of t bytes edits) ≡ new_text t bytes edits }
+    ensures old { PiecesAreOldBytes }
+    ensures new { PiecesAreNewText }
+{}
+
+/// The new text sees edits through what they put at each spot alone: their order doesn't matter.
+pub fn edits_are_known_by_their_spots()
+    ensures { SameEditsMakeOneText }
+{}
+
+/// Edits whose spots rise by some rank are edits of a tree, where each is at a spot of it and has items for that.
+pub fn ranked_edits_are_edits()
+    ensures { RankedAreEdits }
 {}

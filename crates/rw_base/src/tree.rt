@@ -1,6 +1,7 @@
 // Lossless trees.
 ghost use Rattle.std.specs.Prelude.{◌≡◌, ◌<◌, ◌≤◌, ◌+◌, ◌++◌, length, OnOk, OnErr, IsOk, vec_len, vec_capacity};
-ghost use Rattle.rw_base.specs.Arena.{Arena, IsTree, AreBelow, leaf_at, kind_of, first_of, past_of, parts_of, prefix_of, text_of, print_of, end_of};
+ghost use Rattle.rw_base.specs.Arena.{Arena, IsTree, AreBelow, leaf_at, kind_of, first_of, past_of, parts_of};
+ghost use Rattle.rw_base.specs.Arena.{prefix_of, text_of, print_of, end_of};
 ghost use Rattle.rw_base.specs.Laid.{kids_of, forest_of};
 
 use crate::kept_nodes::KeptNodes;

@@ -1,6 +1,6 @@
 use Rattle.std.proofs.Common.{◌≡◌, ◌≤◌, ◌+◌}
 use Rattle.rw_base.specs.Places.{line_of, column_of}
-use Rattle.rw_base.proofs.place.place_of.Given as goal
+use Rattle.rw_base.proofs.place.place_after.Given as goal
 
 abbrev pub invariant-loop-k : goal.invariant-loop-k
 invariant-loop-k l = record {
