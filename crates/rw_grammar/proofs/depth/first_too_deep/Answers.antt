@@ -1,7 +1,6 @@
 use Rattle.std.proofs.Common.{◌≡◌, ℕ, ◌-◌, List, length, sym, ◌∙◌, ap, subst, arith}
 use Rattle.std.specs.Prelude.{slice_index, Option, Some, None, Result, Ok}
 use Rattle.rw_base.specs.declared.memory.NoMemory.{NoMemory}
-use Rattle.rw_base.specs.declared.tree.Part.{Part}
 use Rattle.rw_base.specs.Trees.{none, node}
 use Rattle.rw_base.specs.LaidLaws.{length-rows}
 use Rattle.rw_grammar.specs.declared.depth.TheConstants.{DEPTH_LIMIT}

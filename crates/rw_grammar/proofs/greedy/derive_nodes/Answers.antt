@@ -1,9 +1,9 @@
-use Rattle.std.proofs.Common.{◌≡◌, ◌-◌, List, length, ◌∙◌, ap, subst, sym, refl, arith}
+use Rattle.std.proofs.Common.{◌≡◌, List, ◌∙◌, ap, subst}
 use Rattle.std.specs.Prelude.{Ok, Err}
 use Rattle.rw_grammar.specs.declared.cells.Cell.{Cell}
 use Rattle.rw_grammar.specs.Parts.{Parts}
 use Rattle.rw_grammar.specs.Cells.{rules_at}
-use Rattle.rw_grammar.specs.Results.{AreRowsOf, Stops, tree_of}
+use Rattle.rw_grammar.specs.Results.{AreRowsOf, Stops}
 use Rattle.rw_grammar.proofs.MadeTrees.{made_is, made_tree}
 use Rattle.rw_grammar.proofs.greedy.derive_nodes.Goals as goal
 

@@ -1,7 +1,6 @@
 use Rattle.std.proofs.Common.{◌≡◌, ℕ, ◌-◌, List, refl, sym, ◌∙◌, ap, subst}
 use Rattle.std.specs.Prelude.{Err}
 use Rattle.rw_base.specs.declared.tree.Leaf.{Leaf}
-use Rattle.rw_base.specs.declared.place.Refused.{Refused}
 use Rattle.rw_base.specs.declared.place.ReadFault.TheVariants as read
 use Rattle.rw_base.specs.Arena.{Arena}
 use Rattle.rw_grammar.specs.Results.{Stops, IsDerived, IsTooDeep, tree_of}
