@@ -2,6 +2,7 @@ pub mod Arena
 pub mod Heads
 pub mod KeptNodes
 pub mod Cut
+pub mod Utf8
 pub mod Trees
 pub mod Rows
 pub mod RowLaws
