@@ -1,6 +1,6 @@
 -- A lone applicable candidate: its tests against itself ask nothing and pass.
 use Rattle.std.proofs.Common.{◌≡◌, ◌∙◌, sym, ap, subst, refl, ℕ, List, [], ◌∷◌, length, map, Bool, true, false, Some}
-use Rattle.std.proofs.Common.{if◌then◌else◌, slice_get, arith, All}
+use Rattle.std.proofs.Common.{if◌then◌else◌, arith, All}
 use Rattle.std.specs.List.{zip, list_all, list_any}
 use Rattle.dialogue.specs.Dialogue.{done, bind, each}
 use Rattle.dialogue.specs.Told.{Told}

@@ -4,11 +4,9 @@ use Rattle.std.specs.List.{list_all, enumerate_from}
 use Rattle.std.proofs.lemmas.Bool.Decides.{eqb_tells}
 use Rattle.dialogue.specs.Dialogue.{In, run, done}
 use Rattle.dialogue.specs.DialogueLaws.{run-bind}
-use Rattle.jtypes.proofs.Equality.{true_false, type_eq_true, type_eq_same}
-use Rattle.jtypes.specs.Subtype.{type_eq}
+use Rattle.jtypes.proofs.Equality.{true_false}
 use Rattle.jtypes.specs.World.{World}
 use Rattle.jtypes.specs.declared.signatures.MethodSig.{MethodSig}
-use Rattle.jtypes.specs.declared.types.JType.{JType}
 use Rattle.j_overload.specs.TestEach.{all_of}
 use Rattle.j_overload.specs.Parameters.{takes_number}
 use Rattle.j_overload.specs.Rules.{applicable, applicable_ones, more_specific, most_specific_ones, types_eq, first_of_equals, choice_among, choice_in}

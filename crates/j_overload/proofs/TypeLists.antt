@@ -1,7 +1,6 @@
 -- The types that arguments are tested against, by their positions.
-use Rattle.std.proofs.Common.{◌≡◌, ◌∙◌, sym, ap, subst, refl, ℕ, zero, suc, ◌+◌, ◌<◌, ◌≤◌, List, [], ◌∷◌, ◌++◌, length, take, drop, Bool, true, false, ◌&&◌, nat_eq, nat_le, nat_lt, Some, None, slice_get, replicate, arith, add-one, if◌then◌else◌, eqb-true, ◌⊎◌, inl, inr, get_or}
+use Rattle.std.proofs.Common.{◌≡◌, sym, ap, subst, refl, ℕ, zero, suc, ◌+◌, ◌<◌, ◌≤◌, List, [], ◌∷◌, ◌++◌, length, take, Bool, true, false, ◌&&◌, nat_eq, nat_le, nat_lt, Some, None, slice_get, replicate, arith, add-one, if◌then◌else◌, eqb-true, ◌⊎◌, inl, inr, get_or}
 use Rattle.std.specs.List.{zip}
-use Rattle.std.proofs.Math.Seq.{drop-cons}
 use Rattle.std.proofs.lemmas.Option.{slice_get_read}
 use Rattle.std.proofs.lemmas.Bool.{ltb-true}
 use Rattle.std.proofs.lemmas.Bool.Decides.{eqb_tells}
@@ -9,9 +8,6 @@ use Rattle.jtypes.specs.Arrays.{ArrayOf, array_is}
 use Rattle.jtypes.specs.declared.signatures.MethodSig.{MethodSig}
 use Rattle.jtypes.specs.declared.types.JType.{JType}
 use Rattle.jtypes.specs.declared.types.JType.TheViews.{Array}
-use Rattle.jtypes.proofs.Equality.{types_decide, same_bool, true_false}
-use Rattle.jtypes.specs.Subtype.{type_eq}
-use Rattle.j_overload.specs.Rules.{types_eq}
 use Rattle.j_overload.specs.Parameters.{element_type, spread, parameter_types, takes_number, HasTypeAt, compared_count}
 use Rattle.j_overload.specs.declared.phase.Phase.{Phase}
 use Rattle.j_overload.specs.declared.phase.Phase.TheVariants.{Strict, Loose, Variable}

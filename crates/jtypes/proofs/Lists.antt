@@ -1,6 +1,6 @@
 -- Lists that are equal item by item.
 use Rattle.std.proofs.Common.{◌≡◌, ◌∙◌, sym, ap, subst, refl, ℕ, ◌<◌, ◌+◌, List, [], ◌∷◌, length, drop, get_or, suc, Some}
-use Rattle.std.proofs.Common.{slice_get, add-one, Bool, true, false, ◌&&◌, arith}
+use Rattle.std.proofs.Common.{slice_get, add-one, Bool, true, false, ◌&&◌}
 use Rattle.std.proofs.Math.Seq.{drop-cons}
 use Rattle.std.proofs.lemmas.Option.{slice_get_read}
 use lib.Pointwise.{pointwise}

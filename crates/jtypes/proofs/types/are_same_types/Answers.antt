@@ -1,4 +1,4 @@
-use Rattle.std.proofs.Common.{◌∙◌, ◌≡◌, sym, ap, refl, length, drop, arith, rules}
+use Rattle.std.proofs.Common.{◌∙◌, ◌≡◌, sym, ap, length, arith, rules}
 use Rattle.jtypes.proofs.Equality.{true_false}
 use Rattle.jtypes.proofs.Lists.{same_from, same_at}
 use Rattle.jtypes.proofs.types.are_same_types.Goals as goal
