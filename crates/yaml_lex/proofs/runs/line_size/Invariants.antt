@@ -1,0 +1,6 @@
+use Rattle.std.proofs.Common.{◌≡◌, ℕ, ◌<◌, true, get_or}
+use Rattle.yaml_lex.specs.Scalars.{in_line}
+use Rattle.yaml_lex.proofs.runs.line_size.Given as goal
+
+abbrev pub invariant-loop-at : goal.invariant-loop-at
+invariant-loop-at l = (k : ℕ) → k < l.at → in_line (get_or l.text k 0) ≡ true

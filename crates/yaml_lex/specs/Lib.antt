@@ -1,0 +1,9 @@
+pub mod Characters
+pub mod Contexts
+pub mod Collections
+pub mod Scalars
+pub mod BlockScalars
+pub mod Leaves
+pub mod Tiles
+pub mod Classes
+pub mod Scanning
