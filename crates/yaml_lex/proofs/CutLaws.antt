@@ -7,7 +7,8 @@ use Rattle.yaml_lex.specs.declared.context.Context.{Context}
 use Rattle.yaml_lex.specs.declared.collections.Collection.{Collection}
 use Rattle.yaml_lex.specs.Contexts.{start, past, past_leaf}
 use Rattle.yaml_lex.specs.Collections.{open_behind, textless_before, closes}
-use Rattle.yaml_lex.specs.Leaves.{Cuts, passed, leaf, ended, stopped, end_leaf, leaf_from, form_of, AreYamlLeaves, utf8_front, is_broken, mark_size, behind_mark}
+use Rattle.rw_base.specs.Utf8.{utf8_front, is_broken, mark_size, behind_mark}
+use Rattle.yaml_lex.specs.Leaves.{Cuts, passed, leaf, ended, stopped, end_leaf, leaf_from, form_of, AreYamlLeaves}
 use Rattle.yaml_lex.proofs.TextLaws.{text-inside}
 use Rattle.yaml_lex.proofs.StepLaws.{Step, pass, next, finish, bad, IsStep, step-one, step-of, passed-inside}
 

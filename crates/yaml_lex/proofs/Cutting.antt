@@ -13,7 +13,8 @@ use Rattle.yaml_lex.specs.declared.collections.Collection.{Collection}
 use Rattle.yaml_lex.specs.declared.class.TheConstants.{END}
 use Rattle.yaml_lex.specs.Contexts.{start, past, past_leaf}
 use Rattle.yaml_lex.specs.Collections.{open_behind, textless_before, closes, is_refused}
-use Rattle.yaml_lex.specs.Leaves.{Cuts, passed, leaf, ended, stopped, IsNext, IsBad, end_leaf, AreYamlLeaves, utf8_front, is_broken, mark_size}
+use Rattle.rw_base.specs.Utf8.{utf8_front, is_broken, mark_size}
+use Rattle.yaml_lex.specs.Leaves.{Cuts, passed, leaf, ended, stopped, IsNext, IsBad, end_leaf, AreYamlLeaves}
 use Rattle.yaml_lex.specs.Scanning.{Passes, none, more}
 
 -- What is cut off so far goes on to the leaves of the file with whatever the rest is cut into.

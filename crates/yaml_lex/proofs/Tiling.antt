@@ -12,7 +12,8 @@ use Rattle.yaml_lex.specs.declared.context.Context.{Context}
 use Rattle.yaml_lex.specs.declared.collections.Collection.{Collection}
 use Rattle.yaml_lex.specs.Contexts.{start, past, past_leaf, in_flow}
 use Rattle.yaml_lex.specs.Collections.{without_from, without_sequence, left_open, opens, opening, open_behind, textless, textless_before, closes}
-use Rattle.yaml_lex.specs.Leaves.{Cuts, passed, leaf, ended, stopped, end_leaf, leaf_from, form_of, AreYamlLeaves, utf8_front, is_broken, mark_size}
+use Rattle.rw_base.specs.Utf8.{utf8_front, is_broken, mark_size}
+use Rattle.yaml_lex.specs.Leaves.{Cuts, passed, leaf, ended, stopped, end_leaf, leaf_from, form_of, AreYamlLeaves}
 use Rattle.rw_base.specs.Cut.{ends_at}
 use Rattle.yaml_lex.specs.Tiles.{AreTiles}
 use Rattle.yaml_lex.proofs.Cutting.{mark-inside}

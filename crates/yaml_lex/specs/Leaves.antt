@@ -1,9 +1,9 @@
 -- A text cut into leaves, up to the end or the first bad place. At each place blanks, line ends and comments come
 -- first (YAML 1.2, chapters 6 to 9, in a subset: no tags, no directives, no complex keys, no plain scalar over several
 -- lines).
-use Rattle.std.specs.Prelude.{◌≡◌, ℕ, ◌+◌, ◌<◌, ◌==◌, ◌&&◌, ◌||◌, not, Bool, true, false, nat_lt, List, [], ◌∷◌}
+use Rattle.std.specs.Prelude.{◌≡◌, ℕ, ◌+◌, ◌<◌, ◌==◌, ◌&&◌, ◌||◌, not, Bool, true, false, List, [], ◌∷◌}
 use Rattle.std.specs.Prelude.{◌++◌, length, take, drop, slice_index, Option, Some, None, if◌then◌else◌}
-use Rattle.std.specs.Str.Lossy.{utf8_valid_len}
+use Rattle.rw_base.specs.Utf8.{utf8_front, is_broken, mark_size, behind_mark}
 use Rattle.rw_base.specs.declared.tree.Leaf.{Leaf}
 use Rattle.rw_base.specs.declared.leaves.Bad.{Bad}
 use Rattle.rw_base.specs.declared.place.Cause.{Cause}
@@ -183,22 +183,6 @@ pub data Cuts (broken : Bool)
       → Cuts broken from at p os s (end_leaf from (at + n) ∷ []) (Some (record { byte = at + n; cause = cause }))
 
 -- ---- whole files
-
--- the longest front that is UTF-8
-abbrev pub utf8_front : List ℕ → List ℕ
-utf8_front bytes = take (utf8_valid_len bytes) bytes
-
--- bytes follow it that aren't
-abbrev pub is_broken : List ℕ → Bool
-is_broken bytes = nat_lt (utf8_valid_len bytes) (length bytes)
-
--- the bytes of the byte order mark that a text begins with
-abbrev pub mark_size : List ℕ → ℕ
-mark_size s = if (slice_index s 0 == 239) && (slice_index s 1 == 187) && (slice_index s 2 == 191) then 3 else 0
-
--- the text behind the byte order mark
-abbrev pub behind_mark : List ℕ → List ℕ
-behind_mark s = drop (mark_size s) s
 
 -- These are the leaves of a file, up to its first bad place.
 unfoldable pub AreYamlLeaves : List ℕ → List Leaf → Option Bad → Type 0

@@ -1,6 +1,7 @@
 // Files cut into leaves.
 ghost use Rattle.std.specs.Prelude.{◌≡◌, ◌+◌, ◌≤◌, length, IfOk};
-ghost use Rattle.yaml_lex.specs.Leaves.{AreYamlLeaves, utf8_front, mark_size, leaf_from};
+ghost use Rattle.rw_base.specs.Utf8.{utf8_front, mark_size};
+ghost use Rattle.yaml_lex.specs.Leaves.{AreYamlLeaves, leaf_from};
 ghost use Rattle.yaml_lex.specs.Tiles.{AreTiles};
 
 use crate::class::END;
