@@ -1,6 +1,7 @@
-//! The edge to the outside: paths, the stores that hold files by them, the sinks that take text, and the gate that
-//! pieces of work enter. All that lies above is written for any `Store`, `Sink` and `Gate`, so that a contract can
-//! speak of the files before and after a run; the program hands in the real ones.
+//! The edge to the outside: paths, the stores that hold files by them, the sinks that take text, the gate that pieces
+//! of work enter, and the count of the steps that they take. All that lies above is written for any `Store`, `Sink`,
+//! `Gate` and ledger of `Steps`, so that a contract can speak of the files before and after a run, and of the work; the
+//! program hands in the real ones.
 //!
 //! ```text
 //! let mut store = FolderStore::new(rt, alloc, ".")?;
@@ -15,7 +16,7 @@
 //! (`write` and `remove`, `elsewhere`), and `Failed` is answered only where the count of that kind of call rose
 //! (`cause`, `count` and `other_count` of each call). The clauses on files hold of a store that tells them to proofs. A
 //! real folder tells none, since others may change it; those of the crate `memory_stores` do. A sink has put the whole
-//! piece or a prefix of it (`Sink::put`, `whole` and `part`).
+//! piece or a prefix of it (`Sink::put`, `whole` and `part`). `Steps` is a number that only `tick` changes, by one.
 //!
 //! Definitions, in this order: `Files` (files as a map from paths to bytes, the order of paths, a count that rose),
 //! `Path` (which texts are paths), `Sink`. `Room` serves private functions alone, and `FileLaws` has laws of `Files`
@@ -30,6 +31,7 @@ mod gate;
 mod listing;
 mod path;
 mod sink;
+mod steps;
 mod store;
 mod unsynced;
 
@@ -39,4 +41,5 @@ pub use folder::FolderStore;
 pub use gate::{Gate, OpenGate};
 pub use path::PathText;
 pub use sink::{MemorySink, Sink, StdSink};
+pub use steps::Steps;
 pub use store::Store;
