@@ -1,0 +1,125 @@
+//! Worked examples of the calls of all libraries: cases from the standard input, each with its answer.
+#![tactic(auto)]
+
+mod base;
+mod choices;
+mod edits;
+mod fault;
+mod folders;
+mod grammar;
+mod java;
+mod java_classes;
+mod large;
+mod notation;
+mod properties;
+mod questions;
+mod recipes;
+mod showing;
+mod stores;
+mod types;
+mod words;
+mod world;
+
+use crate::fault::{Done, Fault};
+use crate::stores::AnyStore;
+use std::alloc::Global;
+use std::fs;
+use std::io::{BufRead, BufReader};
+use std::rt::Files;
+
+// What the lines so far have set.
+#[derive(Drop)]
+struct Cases<R: Files + Print + AllocGlobal + Clone + Drop> {
+    heading: String,
+    givens: Vec<String>,
+    store: Option<AnyStore<R>>,
+}
+
+// Writes the answer of a case.
+fn put_answer<R: Files + Print + AllocGlobal + Clone + Drop>(
+    rt: &R,
+    alloc: Global,
+    cases: &mut Cases<R>,
+    case: &str,
+    out: &mut String,
+) -> Done {
+    let givens = cases.givens.as_slice();
+    match cases.heading.as_str() {
+        "java leaves" => java::put_leaves(alloc, case, out),
+        "java places" => java::put_places(alloc, case, out),
+        "java file" => java::put_spaced(alloc, &fs::read(rt, case)?, out),
+        "properties leaves" => properties::put_leaves(alloc, case, out),
+        "properties entries" => properties::put_entries(alloc, case, out),
+        "properties with a key" => properties::put_keys(alloc, case, out),
+        "spelled keys" => properties::put_spelled_key(alloc, case, out),
+        "spelled values" => properties::put_spelled_value(alloc, case, out),
+        "texts" => base::put_text(alloc, case, out),
+        "places" => base::put_places(alloc, case, out),
+        "prints" => base::put_print(alloc, givens, out),
+        "new texts" => base::put_new_text(alloc, givens, case, out),
+        "tables" => grammar::put_fault(alloc, case, out),
+        "derivations" => grammar::put_derived(alloc, givens, case, out),
+        "subtypes and fits" => types::put_relations(alloc, givens, case, out),
+        "subtypes asking" => types::put_asking(alloc, givens, case, out),
+        "primitive types and boxes" => types::put_fits(alloc, givens, case, out),
+        "promotion" => types::put_promotions(alloc, case, out),
+        "boxes" => types::put_boxes(alloc, case, out),
+        "copies" => types::put_copy(alloc, case, out),
+        "question sets" => questions::put_answers(alloc, givens, case, out),
+        "choices" => choices::put_chosen(alloc, givens, case, out),
+        "choices asking" => choices::put_asking(alloc, givens, case, out),
+        "renamed keys" => recipes::put_renamed(alloc, case, out),
+        "paths" => stores::put_path(alloc, case, out),
+        "stores" => stores::put_answer(rt, alloc, &mut cases.store, case, out),
+        "standard output" => stores::put_piece(rt.clone()?, alloc, case, out),
+        "large" => large::put_answer(alloc, case, out),
+        "sinks" => stores::put_pieces(alloc, case, out),
+        _ => Err(Fault::NoCase("heading")),
+    }
+}
+
+// Writes a line, and where it is a case, its answer behind it.
+fn put_line<R: Files + Print + AllocGlobal + Clone + Drop>(
+    rt: &R,
+    alloc: Global,
+    cases: &mut Cases<R>,
+    line: &str,
+    out: &mut String,
+) -> Done {
+    out.push_str(line)?;
+    if line.is_empty() || line.starts_with('#') {
+        return Ok(());
+    }
+    if let Some(heading) = line.strip_prefix("== ") {
+        cases.heading = String::from_str(alloc, heading)?;
+        cases.givens.clear();
+        return Ok(());
+    }
+    if let Some(given) = line.strip_prefix("given ") {
+        cases.givens.push(String::from_str(alloc, given)?)?;
+        return Ok(());
+    }
+    if let Some(front) = line.strip_prefix("forget ") {
+        cases.givens.retain(|given| !given.starts_with(front));
+        return Ok(());
+    }
+    out.push_str(" => ")?;
+    put_answer(rt, alloc, cases, line, out)
+}
+
+fn main(rt: HostRuntime) -> Done {
+    let alloc = rt.alloc();
+    let mut cases = Cases {
+        heading: String::new(alloc),
+        givens: Vec::new(alloc),
+        store: None,
+    };
+    for line in BufReader::new(alloc, rt.reader())?.lines(alloc) {
+        let line = line?;
+        let mut out = String::new(alloc);
+        let done = put_line(&rt, alloc, &mut cases, line.as_str(), &mut out);
+        rt.println(out)?;
+        done?;
+    }
+    Ok(())
+}
