@@ -10,6 +10,9 @@ mod grammar;
 mod java;
 mod java_classes;
 mod large;
+mod large_files;
+mod large_texts;
+mod large_types;
 mod notation;
 mod properties;
 mod questions;
@@ -62,6 +65,7 @@ fn put_answer<R: Files + Print + AllocGlobal + Clone + Drop>(
         "subtypes and fits" => types::put_relations(alloc, givens, case, out),
         "subtypes asking" => types::put_asking(alloc, givens, case, out),
         "primitive types and boxes" => types::put_fits(alloc, givens, case, out),
+        "fits asking" => types::put_fits_asking(alloc, givens, case, out),
         "promotion" => types::put_promotions(alloc, case, out),
         "boxes" => types::put_boxes(alloc, case, out),
         "copies" => types::put_copy(alloc, case, out),

@@ -43,3 +43,17 @@ pub fn put_between(out: &mut String, at: usize, between: &str) -> Result<(), All
     }
     Ok(())
 }
+
+/// The checksum FNV-1a of a text, in 64 bits.
+pub fn checksum(text: &[u8]) -> u64 {
+    let mut sum = 0xcbf2_9ce4_8422_2325u64;
+    for b in text {
+        sum = (sum ^ u64::from(*b)).wrapping_mul(0x100_0000_01b3);
+    }
+    sum
+}
+
+/// Writes how long a text is, and its checksum.
+pub fn put_sum(out: &mut String, text: &[u8]) -> Result<(), AllocError> {
+    write!(out, "{} bytes {:016x}", text.len(), checksum(text))
+}

@@ -14,7 +14,6 @@ use rw_host::{
     StoreFault,
 };
 use std::alloc::Global;
-use std::fmt::Debug;
 use std::fs;
 use std::rt::Files;
 
@@ -84,12 +83,22 @@ fn files_in(alloc: Global, words: &[Word]) -> Result<Listed, Fault>
 }
 
 // Writes what a call answers that gives nothing.
-fn put_done<E: Debug + Drop>(done: Result<(), E>, out: &mut String) -> Done {
+fn put_done(done: Result<(), Failed>, out: &mut String) -> Done {
     match done {
         Ok(()) => out.push_str("done")?,
         Err(fault) => write!(out, "{fault:?}")?,
     }
     Ok(())
+}
+
+// The same of several calls, unless one gave up for want of memory or wasn't made.
+fn put_all_done(done: Done, out: &mut String) -> Done {
+    match done {
+        Ok(()) => put_done(Ok(()), out),
+        Err(Fault::Failed(fault)) => put_done(Err(fault), out),
+        Err(Fault::Store(fault)) => put_fault(fault, out),
+        Err(fault) => Err(fault),
+    }
 }
 
 // Writes what a call answers that failed, unless it gave up for want of memory.
@@ -166,17 +175,17 @@ fn put_call<S: Store>(alloc: Global, store: &mut S, words: &[Word], out: &mut St
         }
         "put" => {
             let text = quoted_at(words, 2)?;
-            put_done(put_file(alloc, store, plain_at(words, 1)?, text), out)
+            put_all_done(put_file(alloc, store, plain_at(words, 1)?, text), out)
         }
         "reserve" => match store.reserve(number_in(plain_at(words, 1)?)?) {
-            Ok(()) => put_done::<Failed>(Ok(()), out),
+            Ok(()) => put_done(Ok(()), out),
             Err(fault) => put_fault(fault, out),
         },
         "put-at" => {
             let path = joined(alloc, words.get(1..).unwrap_or(&[]))?;
-            put_done(put_file(alloc, store, text_in(&path)?, b""), out)
+            put_all_done(put_file(alloc, store, text_in(&path)?, b""), out)
         }
-        "put-many" => put_done(put_many(alloc, store, number_in(plain_at(words, 1)?)?), out),
+        "put-many" => put_all_done(put_many(alloc, store, number_in(plain_at(words, 1)?)?), out),
         "count" => put_count(alloc, store, number_in(plain_at(words, 1)?)?, out),
         "remove" => put_done(store.remove(plain_at(words, 1)?), out),
         "sync" => put_done(store.sync(), out),

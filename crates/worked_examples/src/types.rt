@@ -1,10 +1,11 @@
 // Subtypes, what fits where, promotion, and the questions that they put to a world.
 use crate::fault::{Done, Fault};
+use crate::questions::put_asks;
 use crate::showing::put_between;
 use crate::world::{PRIMS, put_type, type_in, world_in};
 use jtypes::{
-    Asks, JType, box_of, fits_loosely, fits_strictly, is_subtype, is_subtype_asking, promote,
-    unboxed,
+    Asks, JType, box_of, fits_loosely, fits_loosely_asking, fits_strictly, fits_strictly_asking,
+    is_subtype, is_subtype_asking, promote, unboxed,
 };
 use std::alloc::Global;
 
@@ -51,6 +52,20 @@ fn prims_and_boxes(alloc: Global) -> Result<Vec<JType>, Fault> {
         types.push(JType::Class(box_of(alloc, *prim)?))?;
     }
     Ok(types)
+}
+
+/// Writes whether the first type fits the second strictly, and loosely, each with the questions that it puts.
+pub fn put_fits_asking(alloc: Global, givens: &[String], case: &str, out: &mut String) -> Done {
+    let world = world_in(alloc, givens)?;
+    let (from, to) = two_types(alloc, case)?;
+    let mut asks = Asks::new(alloc);
+    let fits = fits_strictly_asking(alloc, &from, &to, &world, &mut asks)?;
+    write!(out, "strictly {fits} ")?;
+    put_asks(alloc, asks, out)?;
+    let mut asks = Asks::new(alloc);
+    let fits = fits_loosely_asking(alloc, &from, &to, &world, &mut asks)?;
+    write!(out, ", loosely {fits} ")?;
+    put_asks(alloc, asks, out)
 }
 
 /// Writes which primitive types and boxes a type fits, strictly and then loosely.
