@@ -3,7 +3,7 @@ use crate::fault::{Done, Fault};
 use crate::java_classes::class_name;
 use crate::showing::{put_between, put_quoted};
 use crate::words::text_of;
-use java_lex::java_leaves;
+use java_lex::{is_identifier, java_leaves};
 use rw_base::{Bad, Leaf, Leaves, MOST_BYTES};
 use std::alloc::{AllocError, Global};
 
@@ -46,6 +46,13 @@ pub fn put_leaves(alloc: Global, case: &str, out: &mut String) -> Done {
         }
     }
     put_bad(out, cut.bad)?;
+    Ok(())
+}
+
+/// Writes whether a text is one identifier leaf.
+pub fn put_identifier(alloc: Global, case: &str, out: &mut String) -> Done {
+    let is = is_identifier(&text_of(alloc, case)?);
+    write!(out, "{is}")?;
     Ok(())
 }
 

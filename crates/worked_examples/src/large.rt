@@ -2,7 +2,7 @@
 // without the program. A case is the name of a call and a number.
 use crate::fault::{Done, Fault};
 use crate::words::number_in;
-use crate::{large_files, large_texts, large_types};
+use crate::{codes, large_files, large_texts, large_types};
 use std::alloc::Global;
 
 /// A text so many times.
@@ -22,6 +22,7 @@ pub fn put_answer(alloc: Global, case: &str, out: &mut String) -> Done {
     let count = number_in(count)?;
     match call {
         "java_leaves" => large_texts::put_java(alloc, count, out),
+        "shapes" => codes::put_row(alloc, count, out),
         "derive" => large_texts::put_derived(alloc, count, out),
         "node_edits" => large_texts::put_node_edits(alloc, count, out),
         "leaf_edits" => large_texts::put_leaf_edits(alloc, count, out),

@@ -4,12 +4,13 @@ use crate::large::repeated;
 use crate::showing::put_sum;
 use crate::stores::put_file;
 use conf_recipes::{edits_in_properties, renamed_in_properties};
+use memory_stores::{MemoryStore, SteadyStore};
 use properties_tree::{
     PropertiesChangePropertyKey, entry_count, key_of, read_properties, spell_key, spell_value,
     value_of,
 };
 use rw_base::{MOST_BYTES, NodeId, ReadFault, Text, rearranged};
-use rw_host::{MemorySink, MemoryStore, PathText, Sink, SteadyStore, Store};
+use rw_host::{MemorySink, PathText, Sink, Store};
 use std::alloc::Global;
 
 /// Writes how many entries a line of so many bytes has, or where it is refused.

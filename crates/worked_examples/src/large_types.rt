@@ -24,7 +24,12 @@ pub fn put_questions(alloc: Global, count: u32, out: &mut String) -> Done {
         let _header = ask_class(alloc, &name_in(alloc, name.as_str())?, &world, &mut asks)?;
     }
     let all = asks.into_items(alloc)?;
-    let rise = all.as_slice().windows(2).all(|pair| pair[0] < pair[1]);
+    let behind = all.as_slice().iter().skip(1);
+    let rise = all
+        .as_slice()
+        .iter()
+        .zip(behind)
+        .all(|(one, next)| one < next);
     write!(out, "{} questions, rising {rise}", all.len())?;
     Ok(())
 }

@@ -1,8 +1,27 @@
-//! Worked examples of the calls of all libraries: cases from the standard input, each with its answer.
+//! Worked examples of the calls of all libraries. The program reads cases from the standard input and writes each with its
+//! answer, and the file `stdout` holds what it must write, so that a person can read and review it:
+//!
+//! ```text
+//! # White space is the space, the tab and the form feed, and no vertical tab (JLS 3.6).
+//! == java leaves
+//! "a.b" => ID "a" | DOT "." | ID "b" | END
+//! "a\x0bb" => ID "a" | END, bad at byte 1: BadLeaf
+//! ```
+//!
+//! A line that begins with `==` names the call that the cases below it make. Lines that begin with `given` say what these
+//! cases share, as rules or a world of classes; `forget` drops those that begin with a word. A call that gives up ends the
+//! program with its error, so that its status is wrong.
+//!
+//! Nothing rests on this program, and its contracts only let it make calls that require something: the texts and numbers
+//! that it reads are tested where they are used. Each crate of the repository has a module here; `words` and `showing` read
+//! cases and write answers, `notation` reads and writes rules, and `world` types and classes. What is proved of a call stands
+//! in its crate. This is for what people know: what the field's documents say that an answer is, and that calls which take
+//! memory give one where there is memory, on large inputs too.
 #![tactic(auto)]
 
 mod base;
 mod choices;
+mod codes;
 mod edits;
 mod fault;
 mod folders;
@@ -30,12 +49,83 @@ use std::fs;
 use std::io::{BufRead, BufReader};
 use std::rt::Files;
 
+// Whether a case was answered.
+type Answered = Result<bool, Fault>;
+
 // What the lines so far have set.
 #[derive(Drop)]
 struct Cases<R: Files + Print + AllocGlobal + Clone + Drop> {
     heading: String,
     givens: Vec<String>,
     store: Option<AnyStore<R>>,
+}
+
+// Writes the answer of a case on paths, stores, sinks and what is large.
+fn put_edge_answer<R: Files + Print + AllocGlobal + Clone + Drop>(
+    rt: &R,
+    alloc: Global,
+    cases: &mut Cases<R>,
+    case: &str,
+    out: &mut String,
+) -> Done {
+    match cases.heading.as_str() {
+        "java file" => java::put_spaced(alloc, &fs::read(rt, case)?, out),
+        "paths" => stores::put_path(alloc, case, out),
+        "stores" => stores::put_answer(rt, alloc, &mut cases.store, case, out),
+        "sinks" => stores::put_pieces(alloc, case, out),
+        "standard output" => stores::put_piece(rt.clone()?, alloc, case, out),
+        "large" => large::put_answer(alloc, case, out),
+        _ => Err(Fault::NoCase("heading")),
+    }
+}
+
+// Writes the answer of a case on texts, or gives that it is on something else.
+fn put_text_answer(alloc: Global, heading: &str, case: &str, out: &mut String) -> Answered {
+    match heading {
+        "java leaves" => java::put_leaves(alloc, case, out)?,
+        "java places" => java::put_places(alloc, case, out)?,
+        "identifiers" => java::put_identifier(alloc, case, out)?,
+        "properties leaves" => properties::put_leaves(alloc, case, out)?,
+        "properties entries" => properties::put_entries(alloc, case, out)?,
+        "entry prefixes" => properties::put_prefixes(alloc, case, out)?,
+        "properties with a key" => properties::put_keys(alloc, case, out)?,
+        "spelled keys" => properties::put_spelled_key(alloc, case, out)?,
+        "spelled values" => properties::put_spelled_value(alloc, case, out)?,
+        "renamed keys" => recipes::put_renamed(alloc, case, out)?,
+        "texts" => base::put_text(alloc, case, out)?,
+        "places" => base::put_places(alloc, case, out)?,
+        "tables" => grammar::put_fault(alloc, case, out)?,
+        "codes" => codes::put_spelled(alloc, case, out)?,
+        "promotion" => types::put_promotions(alloc, case, out)?,
+        "boxes" => types::put_boxes(alloc, case, out)?,
+        "copies" => types::put_copy(alloc, case, out)?,
+        _ => return Ok(false),
+    }
+    Ok(true)
+}
+
+// Writes the answer of a case for which something is given, or gives that it is on something else.
+fn put_given_answer(
+    alloc: Global,
+    heading: &str,
+    givens: &[String],
+    case: &str,
+    out: &mut String,
+) -> Answered {
+    match heading {
+        "prints" => base::put_print(alloc, givens, out)?,
+        "new texts" => base::put_new_text(alloc, givens, case, out)?,
+        "derivations" => grammar::put_derived(alloc, givens, case, out)?,
+        "subtypes and fits" => types::put_relations(alloc, givens, case, out)?,
+        "subtypes asking" => types::put_asking(alloc, givens, case, out)?,
+        "fits asking" => types::put_fits_asking(alloc, givens, case, out)?,
+        "primitive types and boxes" => types::put_fits(alloc, givens, case, out)?,
+        "question sets" => questions::put_answers(alloc, givens, case, out)?,
+        "choices" => choices::put_chosen(alloc, givens, case, out)?,
+        "choices asking" => choices::put_asking(alloc, givens, case, out)?,
+        _ => return Ok(false),
+    }
+    Ok(true)
 }
 
 // Writes the answer of a case.
@@ -46,40 +136,14 @@ fn put_answer<R: Files + Print + AllocGlobal + Clone + Drop>(
     case: &str,
     out: &mut String,
 ) -> Done {
+    let heading = cases.heading.as_str();
     let givens = cases.givens.as_slice();
-    match cases.heading.as_str() {
-        "java leaves" => java::put_leaves(alloc, case, out),
-        "java places" => java::put_places(alloc, case, out),
-        "java file" => java::put_spaced(alloc, &fs::read(rt, case)?, out),
-        "properties leaves" => properties::put_leaves(alloc, case, out),
-        "properties entries" => properties::put_entries(alloc, case, out),
-        "properties with a key" => properties::put_keys(alloc, case, out),
-        "spelled keys" => properties::put_spelled_key(alloc, case, out),
-        "spelled values" => properties::put_spelled_value(alloc, case, out),
-        "texts" => base::put_text(alloc, case, out),
-        "places" => base::put_places(alloc, case, out),
-        "prints" => base::put_print(alloc, givens, out),
-        "new texts" => base::put_new_text(alloc, givens, case, out),
-        "tables" => grammar::put_fault(alloc, case, out),
-        "derivations" => grammar::put_derived(alloc, givens, case, out),
-        "subtypes and fits" => types::put_relations(alloc, givens, case, out),
-        "subtypes asking" => types::put_asking(alloc, givens, case, out),
-        "primitive types and boxes" => types::put_fits(alloc, givens, case, out),
-        "fits asking" => types::put_fits_asking(alloc, givens, case, out),
-        "promotion" => types::put_promotions(alloc, case, out),
-        "boxes" => types::put_boxes(alloc, case, out),
-        "copies" => types::put_copy(alloc, case, out),
-        "question sets" => questions::put_answers(alloc, givens, case, out),
-        "choices" => choices::put_chosen(alloc, givens, case, out),
-        "choices asking" => choices::put_asking(alloc, givens, case, out),
-        "renamed keys" => recipes::put_renamed(alloc, case, out),
-        "paths" => stores::put_path(alloc, case, out),
-        "stores" => stores::put_answer(rt, alloc, &mut cases.store, case, out),
-        "standard output" => stores::put_piece(rt.clone()?, alloc, case, out),
-        "large" => large::put_answer(alloc, case, out),
-        "sinks" => stores::put_pieces(alloc, case, out),
-        _ => Err(Fault::NoCase("heading")),
+    if put_text_answer(alloc, heading, case, out)?
+        || put_given_answer(alloc, heading, givens, case, out)?
+    {
+        return Ok(());
     }
+    put_edge_answer(rt, alloc, cases, case, out)
 }
 
 // Writes a line, and where it is a case, its answer behind it.

@@ -145,32 +145,27 @@ pub fn rules_in_line(alloc: Global, line: &str) -> Result<Items<Shape>, Fault> {
     Ok(rules)
 }
 
-// Writes shapes, with this between them.
-fn put_all(shapes: &[Shape], between: &str, out: &mut String) -> Done {
-    out.push_str("( ")?;
-    for (at, shape) in shapes.iter().enumerate() {
-        put_between(out, at, between)?;
-        put_shape(shape, out)?;
-    }
-    out.push_str(" )")?;
-    Ok(())
-}
-
-/// Writes a shape.
+/// Writes a shape. A row or alternatives stand in parentheses.
 pub fn put_shape(shape: &Shape, out: &mut String) -> Done {
-    match shape {
-        Shape::Leaf(class) => out.push_str(class_name(*class))?,
-        Shape::Rule(rule) => write!(out, "R{rule}")?,
-        Shape::Seq(row) => put_all(row.as_slice(), " ", out)?,
-        Shape::Choice(alternatives) => put_all(alternatives.as_slice(), " | ", out)?,
+    let (parts, between) = match shape {
+        Shape::Leaf(class) => return Ok(out.push_str(class_name(*class))?),
+        Shape::Rule(rule) => return Ok(write!(out, "R{rule}")?),
         Shape::Opt(part) => {
             put_shape(part.get(), out)?;
-            out.push('?')?;
+            return Ok(out.push('?')?);
         }
         Shape::Many(part) => {
             put_shape(part.get(), out)?;
-            out.push('*')?;
+            return Ok(out.push('*')?);
         }
+        Shape::Seq(row) => (row.as_slice(), " "),
+        Shape::Choice(alternatives) => (alternatives.as_slice(), " | "),
+    };
+    out.push('(')?;
+    for (at, part) in parts.iter().enumerate() {
+        put_between(out, at, between)?;
+        put_shape(part, out)?;
     }
+    out.push(')')?;
     Ok(())
 }

@@ -7,8 +7,8 @@ use crate::fault::Done;
 use crate::showing::{put_between, put_escaped, put_quoted};
 use crate::words::{quoted_at, text_of, words_of};
 use properties_tree::{
-    entry_count, has_key, key_leaf, key_of, next_with_key, read_properties, spell_key, spell_value,
-    value_of,
+    entry_count, has_key, key_leaf, key_of, next_with_key, prefix_of_entry, read_properties,
+    spell_key, spell_value, value_of,
 };
 use rw_base::{NodeId, Tree};
 use std::alloc::Global;
@@ -51,6 +51,18 @@ pub fn put_entries(alloc: Global, case: &str, out: &mut String) -> Done {
         put_quoted(out, &value_of(alloc, &tree, bytes, NodeId(n))?)?;
     }
     out.push('}')?;
+    Ok(())
+}
+
+/// Writes what stands before each entry.
+pub fn put_prefixes(alloc: Global, case: &str, out: &mut String) -> Done {
+    let text = text_of(alloc, case)?;
+    let bytes = text.as_slice();
+    let tree = read_properties(alloc, bytes)?;
+    for n in 0..entry_count(&tree, bytes) {
+        put_between(out, n as usize, " ")?;
+        put_quoted(out, prefix_of_entry(&tree, bytes, NodeId(n)))?;
+    }
     Ok(())
 }
 

@@ -3,16 +3,14 @@
 // calls behind it are made on it: `list MOST`, `read PATH MOST`, `reserve COUNT`, `put PATH TEXT`, which makes room first,
 // `remove PATH` and `sync`; `put-at`, whose path is made of texts, `put-many COUNT`, and `count MOST`.
 ghost use Rattle.std.specs.Prelude.{◌≡◌, ◌≢◌, IfOk};
-ghost use Rattle.rw_host.specs.Table.{IsEachOnce};
+ghost use Rattle.memory_stores.specs.Table.{IsEachOnce};
 
 use crate::fault::{Done, Fault};
 use crate::folders::put_outside;
 use crate::showing::{put_between, put_escaped, put_quoted};
 use crate::words::{Word, joined, number_in, plain_at, quoted_at, text_in, text_of, words_of};
-use rw_host::{
-    Failed, FolderStore, MemorySink, MemoryStore, PathText, Sink, StdSink, SteadyStore, Store,
-    StoreFault,
-};
+use memory_stores::{MemoryStore, SteadyStore};
+use rw_host::{Failed, FolderStore, MemorySink, PathText, Sink, StdSink, Store, StoreFault};
 use std::alloc::Global;
 use std::fs;
 use std::rt::Files;
