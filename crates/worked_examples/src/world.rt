@@ -159,24 +159,30 @@ fn push_row(alloc: Global, headers: &mut Vec<Header>, count: u32) -> Done {
 
 // Adds what a line declares.
 fn push_line(alloc: Global, lists: &mut Lists, line: &str) -> Done {
-    let words: Vec<&str> = line.split_whitespace().collect(alloc)?;
-    let behind = words.get(1..).unwrap_or(&[]);
-    let behind_two = words.get(2..).unwrap_or(&[]);
-    let kind = match word_at(&words, 0)? {
+    let declared = line.strip_prefix("static ").unwrap_or(line);
+    let is_static = declared.len() < line.len();
+    let Some((first, behind)) = declared.split_once(' ') else {
+        return Err(Fault::NoCase("name"));
+    };
+    let words: Vec<&str> = behind.split_whitespace().collect(alloc)?;
+    let kind = match first {
         "class" => ClassKind::Class,
         "interface" => ClassKind::Interface,
         "enum" => ClassKind::Enum,
         "annotation" => ClassKind::Annotation,
-        "row" => return push_row(alloc, &mut lists.headers, number_in(word_at(&words, 1)?)?),
-        "field" => return Ok(lists.fields.push(field(alloc, behind, false)?)?),
-        "method" => return Ok(lists.methods.push(method(alloc, behind, false)?)?),
-        "static" if word_at(&words, 1)? == "field" => {
-            return Ok(lists.fields.push(field(alloc, behind_two, true)?)?);
+        "row" => return push_row(alloc, &mut lists.headers, number_in(behind)?),
+        "field" => {
+            let field = field(alloc, &words, is_static)?;
+            return Ok(lists.fields.push(field)?);
         }
-        "static" => return Ok(lists.methods.push(method(alloc, behind_two, true)?)?),
+        "method" => {
+            let method = method(alloc, &words, is_static)?;
+            return Ok(lists.methods.push(method)?);
+        }
         _ => return Err(Fault::NoCase("kind of declaration")),
     };
-    lists.headers.push(header(alloc, kind, behind)?)?;
+    let header = header(alloc, kind, &words)?;
+    lists.headers.push(header)?;
     Ok(())
 }
 
