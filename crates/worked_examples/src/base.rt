@@ -1,30 +1,11 @@
-// Places in texts, and new texts of trees with edits.
+// Texts, and the new texts of trees with edits.
 use crate::edits::edits_in;
 use crate::fault::{Done, Fault};
-use crate::grammar::{derived, end_byte};
-use crate::showing::{put_between, put_quoted};
+use crate::grammar::{end_byte, read};
+use crate::showing::put_quoted;
 use crate::words::text_of;
-use rw_base::{Place, Text, Tree, place_of, print, rearranged};
+use rw_base::{Text, Tree, print, rearranged};
 use std::alloc::Global;
-
-/// The place of a byte.
-pub fn place_at(bytes: &[u8], at: usize) -> Result<Place, Fault> {
-    if at > bytes.len() || at >= u32::MAX as usize {
-        return Err(Fault::NoCase("byte"));
-    }
-    Ok(place_of(bytes, at))
-}
-
-/// Writes the line and the column of each byte of a text and of its end.
-pub fn put_places(alloc: Global, case: &str, out: &mut String) -> Done {
-    let text = text_of(alloc, case)?;
-    for at in 0..=text.len() {
-        let Place { line, column, byte } = place_at(&text, at)?;
-        put_between(out, at, ", ")?;
-        write!(out, "{byte} at {line}:{column}")?;
-    }
-    Ok(())
-}
 
 /// Writes a text that was kept, given back and kept again.
 pub fn put_text(alloc: Global, case: &str, out: &mut String) -> Done {
@@ -40,7 +21,7 @@ fn tree_of(alloc: Global, givens: &[String]) -> Result<(Vec<u8>, Tree), Fault> {
         return Err(Fault::NoCase("text"));
     };
     let text = text_of(alloc, first.as_str())?;
-    match derived(alloc, rules, &text)? {
+    match read(alloc, rules, &text)? {
         Ok(tree) => Ok((text, tree)),
         Err(_) => Err(Fault::NoCase("tree")),
     }

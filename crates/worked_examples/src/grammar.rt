@@ -1,14 +1,15 @@
 // Tables of rules, and the trees that they derive from the leaves of Java texts.
-ghost use Rattle.std.specs.Prelude.{◌≡◌, ◌≤◌, length};
+ghost use Rattle.std.specs.Prelude.{◌≡◌, ◌<◌, ◌≤◌, length, IfOk};
 ghost use Rattle.rw_base.specs.Arena.{end_of};
 
 use crate::fault::{Done, Fault};
 use crate::java::leaves_of;
 use crate::notation::{rules_in, rules_in_line};
+use crate::places::put_refused;
 use crate::showing::{put_between, put_quoted};
 use crate::words::text_of;
-use rw_base::{NodeId, Part, Tree};
-use rw_grammar::{DeriveFault, Table, TableFault, derive};
+use rw_base::{NodeId, Part, ReadFault, Tree};
+use rw_grammar::{DeriveFault, Table, TableFault, derive, read_by};
 use std::alloc::Global;
 
 /// Writes whether rules are a table, and if not, the number and the rule of their fault.
@@ -25,19 +26,37 @@ pub fn put_fault(alloc: Global, case: &str, out: &mut String) -> Done {
     Ok(())
 }
 
-/// The tree that rule 0 derives from a text's leaves, or why there is none.
-pub fn derived(
-    alloc: Global,
-    rules: &[String],
-    text: &[u8],
-) -> Result<Result<Tree, DeriveFault>, Fault> {
+// The table of these rules, of which there is one at least.
+fn table_of(alloc: Global, rules: &[String]) -> Result<Table, Fault>
+    ensures { IfOk result (λ table. 0 < length table) }
+{
     let rules = rules_in(alloc, rules)?;
     if rules.len() == 0 || rules.len() > 65536 {
         return Err(Fault::NoCase("number of rules"));
     }
-    let table = Table::checked(alloc, rules)?;
-    let leaves = leaves_of(alloc, text)?.leaves;
-    Ok(derive(alloc, &table, 0, leaves))
+    Ok(Table::checked(alloc, rules)?)
+}
+
+// The tree that rule 0 derives from a text's leaves, or why there is none.
+fn derived(
+    alloc: Global,
+    rules: &[String],
+    text: &[u8],
+) -> Result<Result<Tree, DeriveFault>, Fault> {
+    let table = table_of(alloc, rules)?;
+    let cut = leaves_of(alloc, text)?;
+    Ok(derive(alloc, &table, 0, cut.leaves))
+}
+
+/// The tree that rule 0 derives from a text, or why the text is refused.
+pub fn read(
+    alloc: Global,
+    rules: &[String],
+    text: &[u8],
+) -> Result<Result<Tree, ReadFault>, Fault> {
+    let table = table_of(alloc, rules)?;
+    let cut = leaves_of(alloc, text)?;
+    Ok(read_by(alloc, &table, 0, text, cut))
 }
 
 /// The byte at which the leaves of a tree end.
@@ -115,5 +134,14 @@ pub fn put_derived(alloc: Global, rules: &[String], case: &str, out: &mut String
         Err(DeriveFault::Stop { leaf }) => Ok(write!(out, "Stop {leaf}")?),
         Err(DeriveFault::TooDeep { leaf }) => Ok(write!(out, "TooDeep {leaf}")?),
         Err(DeriveFault::NoMemory) => Err(Fault::NoMemory),
+    }
+}
+
+/// Writes the tree of a text, or where and why it is refused.
+pub fn put_read(alloc: Global, rules: &[String], case: &str, out: &mut String) -> Done {
+    let text = text_of(alloc, case)?;
+    match read(alloc, rules, &text)? {
+        Ok(tree) => put_tree(alloc, &tree, &text, out),
+        Err(fault) => put_refused(fault, out),
     }
 }

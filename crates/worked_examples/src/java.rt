@@ -1,4 +1,7 @@
 // Java files cut into leaves.
+ghost use Rattle.std.specs.Prelude.{◌≤◌, length, IfOk, OnOk};
+ghost use Rattle.java_lex.specs.Tiles.{AreTiles};
+
 use crate::fault::{Done, Fault};
 use crate::java_classes::class_name;
 use crate::showing::{put_between, put_quoted};
@@ -8,7 +11,10 @@ use rw_base::{Bad, Leaf, Leaves, MOST_BYTES};
 use std::alloc::{AllocError, Global};
 
 /// The leaves of a text that isn't too large.
-pub fn leaves_of(alloc: Global, text: &[u8]) -> Result<Leaves, Fault> {
+pub fn leaves_of(alloc: Global, text: &[u8]) -> Result<Leaves, Fault>
+    ensures tiles { IfOk result (λ cut. AreTiles text.now cut.leaves.items cut.bad) }
+    ensures small { OnOk result (length text.now ≤ MOST_BYTES) }
+{
     if text.len() > MOST_BYTES {
         return Err(Fault::NoCase("Java text of that size"));
     }

@@ -1,6 +1,7 @@
 // Large properties files, and stores with many files.
 use crate::fault::{Done, Fault};
 use crate::large::repeated;
+use crate::places::put_refused;
 use crate::showing::put_sum;
 use crate::stores::put_file;
 use conf_recipes::{edits_in_properties, renamed_in_properties};
@@ -9,7 +10,7 @@ use properties_tree::{
     PropertiesChangePropertyKey, entry_count, key_of, read_properties, spell_key, spell_value,
     value_of,
 };
-use rw_base::{MOST_BYTES, NodeId, ReadFault, Text, rearranged};
+use rw_base::{MOST_BYTES, NodeId, Text, rearranged};
 use rw_host::{MemorySink, PathText, Sink, Store};
 use std::alloc::Global;
 
@@ -18,16 +19,7 @@ pub fn put_read(alloc: Global, count: u32, out: &mut String) -> Done {
     let bytes = repeated(alloc, b"a", count)?;
     match read_properties(alloc, &bytes) {
         Ok(tree) => write!(out, "{} entries", entry_count(&tree, &bytes))?,
-        Err(ReadFault::Refused(refused)) => {
-            let place = refused.place;
-            let cause = refused.cause;
-            write!(
-                out,
-                "{cause:?} at byte {}, {}:{}",
-                place.byte, place.line, place.column
-            )?;
-        }
-        Err(ReadFault::NoMemory) => return Err(Fault::NoMemory),
+        Err(fault) => put_refused(fault, out)?,
     }
     Ok(())
 }

@@ -2,12 +2,12 @@
 ghost use Rattle.std.specs.Prelude.{IfOk};
 ghost use Rattle.rw_base.specs.NewText.{AreEdits};
 
-use crate::base::place_at;
 use crate::edits::add_edit;
 use crate::fault::{Done, Fault};
-use crate::grammar::{derived, end_byte};
+use crate::grammar::{end_byte, read};
 use crate::java::leaves_of;
 use crate::large::repeated;
+use crate::places::place_at;
 use crate::showing::put_sum;
 use crate::words::Word;
 use rw_base::{Edit, NodeId, Spot, Tree, print, rearranged};
@@ -26,7 +26,7 @@ fn statements(alloc: Global, text: &[u8]) -> Result<Tree, Fault> {
     for rule in ["R0 = R1* END", "R1 = ID SEMICOLON"] {
         rules.push(String::from_str(alloc, rule)?)?;
     }
-    match derived(alloc, &rules, text)? {
+    match read(alloc, &rules, text)? {
         Ok(tree) if end_byte(&tree) == text.len() => Ok(tree),
         _ => Err(Fault::NoCase("tree")),
     }

@@ -21,7 +21,7 @@ pub fn put_questions(alloc: Global, count: u32, out: &mut String) -> Done {
     for k in 0..count.saturating_mul(2) {
         let number = k.wrapping_mul(7919) % count.max(1);
         let name = format!(in alloc; "p.N{number}")?;
-        let _header = ask_class(alloc, &name_in(alloc, name.as_str())?, &world, &mut asks)?;
+        let _header = ask_class(&name_in(alloc, name.as_str())?, &world, &mut asks)?;
     }
     let all = asks.into_items(alloc)?;
     let behind = all.as_slice().iter().skip(1);

@@ -22,6 +22,7 @@
 mod base;
 mod choices;
 mod codes;
+mod copies;
 mod edits;
 mod fault;
 mod folders;
@@ -33,6 +34,7 @@ mod large_files;
 mod large_texts;
 mod large_types;
 mod notation;
+mod places;
 mod properties;
 mod questions;
 mod recipes;
@@ -93,11 +95,12 @@ fn put_text_answer(alloc: Global, heading: &str, case: &str, out: &mut String) -
         "spelled values" => properties::put_spelled_value(alloc, case, out)?,
         "renamed keys" => recipes::put_renamed(alloc, case, out)?,
         "texts" => base::put_text(alloc, case, out)?,
-        "places" => base::put_places(alloc, case, out)?,
+        "places" => places::put_places(alloc, case, out)?,
         "tables" => grammar::put_fault(alloc, case, out)?,
         "codes" => codes::put_spelled(alloc, case, out)?,
         "promotion" => types::put_promotions(alloc, case, out)?,
         "boxes" => types::put_boxes(alloc, case, out)?,
+        "names" => copies::put_kept(alloc, case, out)?,
         "copies" => types::put_copy(alloc, case, out)?,
         _ => return Ok(false),
     }
@@ -115,11 +118,13 @@ fn put_given_answer(
     match heading {
         "prints" => base::put_print(alloc, givens, out)?,
         "new texts" => base::put_new_text(alloc, givens, case, out)?,
+        "readings" => grammar::put_read(alloc, givens, case, out)?,
         "derivations" => grammar::put_derived(alloc, givens, case, out)?,
         "subtypes and fits" => types::put_relations(alloc, givens, case, out)?,
         "subtypes asking" => types::put_asking(alloc, givens, case, out)?,
         "fits asking" => types::put_fits_asking(alloc, givens, case, out)?,
         "primitive types and boxes" => types::put_fits(alloc, givens, case, out)?,
+        "copies of declarations" => copies::put_copies(alloc, givens, case, out)?,
         "question sets" => questions::put_answers(alloc, givens, case, out)?,
         "choices" => choices::put_chosen(alloc, givens, case, out)?,
         "choices asking" => choices::put_asking(alloc, givens, case, out)?,

@@ -14,13 +14,13 @@ fn put_look(
     out: &mut String,
 ) -> Done {
     match words {
-        ["class", name] => match ask_class(alloc, &name_in(alloc, name)?, world, asks)? {
+        ["class", name] => match ask_class(&name_in(alloc, name)?, world, asks)? {
             Some(header) => write!(out, "{:?}, ", header.kind)?,
             None => out.push_str("no class, ")?,
         },
         ["field", owner, name] => {
             let (owner, name) = (name_in(alloc, owner)?, name_in(alloc, name)?);
-            match ask_field(alloc, &owner, &name, world, asks)? {
+            match ask_field(&owner, &name, world, asks)? {
                 Some(field) => {
                     out.push_str(if field.is_static { "static " } else { "" })?;
                     put_type(&field.ty, out)?;
@@ -31,7 +31,7 @@ fn put_look(
         }
         ["methods", owner, name] => {
             let (owner, name) = (name_in(alloc, owner)?, name_in(alloc, name)?);
-            let count = ask_methods(alloc, &owner, &name, world, asks)?.len();
+            let count = ask_methods(&owner, &name, world, asks)?.len();
             write!(out, "{count} methods, ")?;
         }
         _ => return Err(Fault::NoCase("question")),

@@ -5,7 +5,7 @@ use crate::showing::put_between;
 use crate::world::{PRIMS, put_type, type_in, world_in};
 use jtypes::{
     Asks, JType, box_of, fits_loosely, fits_loosely_asking, fits_strictly, fits_strictly_asking,
-    is_subtype, is_subtype_asking, promote, unboxed,
+    is_subtype, is_subtype_asking, promote, unbox,
 };
 use std::alloc::Global;
 
@@ -102,7 +102,7 @@ pub fn put_promotions(alloc: Global, case: &str, out: &mut String) -> Done {
 
 /// Writes the primitive type that a type unboxes to, and the class that boxes it.
 pub fn put_boxes(alloc: Global, case: &str, out: &mut String) -> Done {
-    match unboxed(&type_in(alloc, case)?) {
+    match unbox(&type_in(alloc, case)?) {
         Some(prim) => {
             put_type(&JType::Prim(prim), out)?;
             out.push_str(", boxed by ")?;

@@ -4,8 +4,8 @@
 // a method is static where `static` stands before its word, and `...` behind a last type is variable arity.
 use crate::fault::{Done, Fault};
 use crate::words::number_in;
-use jtypes::{ClassKind, FieldSig, Header, JPrim, JType, ListWorld, MethodSig, Name};
-use sqlite_items::{Boxed, Items};
+use jtypes::{ClassKind, FieldSig, Header, JPrim, JType, ListWorld, MethodSig, Name, SharedList};
+use sqlite_items::Boxed;
 use std::alloc::Global;
 
 /// The primitive types and their names.
@@ -95,15 +95,16 @@ fn word_at<'w>(words: &[&'w str], at: usize) -> Result<&'w str, Fault> {
 
 // A class of a kind: its name and those of its supertypes.
 fn header(alloc: Global, kind: ClassKind, words: &[&str]) -> Result<Header, Fault> {
-    let mut supertypes = Items::new(alloc);
+    let mut supertypes = Vec::new(alloc);
     for word in words.iter().skip(1) {
         supertypes.push(name_in(alloc, word)?)?;
     }
+    let name = name_in(alloc, word_at(words, 0)?)?;
     Ok(Header {
-        name: name_in(alloc, word_at(words, 0)?)?,
+        top: name.copy()?,
+        name,
         kind,
-        supertypes,
-        top: name_in(alloc, word_at(words, 0)?)?,
+        supertypes: SharedList::new(alloc, supertypes)?,
         is_private: false,
     })
 }
@@ -121,7 +122,7 @@ fn field(alloc: Global, words: &[&str], is_static: bool) -> Result<FieldSig, Fau
 
 /// A method: its owner, its name and the types of its parameters.
 pub fn method(alloc: Global, words: &[&str], is_static: bool) -> Result<MethodSig, Fault> {
-    let mut params = Items::new(alloc);
+    let mut params = Vec::new(alloc);
     let mut varargs = false;
     for word in words.iter().skip(2) {
         params.push(type_in(alloc, word)?)?;
@@ -130,7 +131,7 @@ pub fn method(alloc: Global, words: &[&str], is_static: bool) -> Result<MethodSi
     Ok(MethodSig {
         owner: name_in(alloc, word_at(words, 0)?)?,
         name: name_in(alloc, word_at(words, 1)?)?,
-        params,
+        params: SharedList::new(alloc, params)?,
         result: JType::Void,
         varargs,
         is_static,
