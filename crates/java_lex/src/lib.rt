@@ -21,19 +21,26 @@
 #![tactic(auto)]
 
 mod automaton;
+
 mod blank;
+mod brackets;
+mod choice;
 pub mod class;
 mod escape;
 mod laws;
 mod leaves;
 mod piece;
+mod segment;
+mod shift;
 mod slots;
 mod table;
+mod type_ends;
 mod word;
 
 pub use laws::{
-    classes_differ, cut_alike, cut_anywhere, cut_behind, cut_together, leaves_are_one,
-    leaves_are_there, leaves_tile,
+    classes_differ, cut_alike, cut_anywhere, cut_behind, cut_together, leaves_are_one, leaves_are_there, leaves_tile,
+    marks_anywhere, marks_are_one, marks_join, marks_keep_leaves, marks_keep_tiles, marks_part,
 };
 pub use leaves::java_leaves;
+pub use segment::mark;
 pub use word::is_identifier;

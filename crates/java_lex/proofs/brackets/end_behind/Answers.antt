@@ -1,0 +1,15 @@
+use Rattle.std.proofs.Common.{◌≡◌, ◌≢◌, ℕ, ◌+◌, ◌<◌, ◌≤◌, ◌⊎◌, [], ◌∷◌, false, length, inl, inr, sym, subst, arith}
+use Rattle.std.specs.Prelude.{Option, Some, None, Bool}
+use Rattle.java_lex.specs.Marks.{among, AreBrackets, IsGroup, stops}
+use Rattle.java_lex.specs.Segments.{class_at}
+use Rattle.java_lex.specs.declared.class.TheConstants.{BRACKET_OPEN, BRACKET_CLOSE, PAREN_OPEN, PAREN_CLOSE, SEMICOLON, ASSIGN, BRACE_OPEN, BRACE_CLOSE}
+use Rattle.java_lex.specs.KnownBrackets.{OneBalanced, NoBalanced, ToldBalanced, ToldWhether, KnowsBrackets, brackets_at, no_brackets}
+use Rattle.java_lex.proofs.TypeSteps.{none_there}
+use Rattle.java_lex.proofs.BracketSteps.{level_here, level_next, level_none, level_behind, no_group, wrong_group, goes_next, goes_behind, no_bracket, no_stop, told_level, told_leads, levels_end}
+use Rattle.java_lex.proofs.brackets.end_behind.Goals as goal
+
+pub returns-else-class_at-close : goal.returns-else-class_at-close
+returns-else-class_at-close c =
+    let one : OneBalanced (class_at c.args.leaves.now) (c.args.at + 1) c.in-Some.end = (subst (ToldBalanced (class_at c.args.leaves.now) (c.args.at + 1)) c.in-Some.is (told_level (class_at c.args.leaves.now) c.args.at c.args.brackets.now c.requires.known (c.args.at + 1) c.brackets_at.result (omega arith) c.brackets_at.ensures)) in
+    level_behind (class_at c.args.leaves.now) c.args.at c.args.close c.in-Some.end c.brackets_at-in-Some.result.end c.requires.open one (omega arith)
+    (told_level (class_at c.args.leaves.now) c.args.at c.args.brackets.now c.requires.known (c.in-Some.end + 1) c.brackets_at-in-Some.result (levels_end (class_at c.args.leaves.now) c.args.at c.in-Some.end one) c.brackets_at-in-Some.ensures)

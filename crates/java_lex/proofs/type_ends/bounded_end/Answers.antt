@@ -1,0 +1,20 @@
+use Rattle.std.proofs.Common.{◌≡◌, ◌≢◌, ◌+◌, ◌≤◌, ◌⊎◌, inl, inr, sym, subst, arith}
+use Rattle.std.specs.Prelude.{Option, Some, None}
+use Rattle.java_lex.specs.Segments.{class_at}
+use Rattle.java_lex.specs.declared.class.TheConstants.{ID, PRIM, LESS, GREATER, COMMA, DOT, BRACKET_OPEN, BRACKET_CLOSE, QUESTION, EXTENDS, SUPER, AND}
+use Rattle.java_lex.specs.Types.{dims, dotted, named, typed, bounds, argument, listed, closed, arguments}
+use Rattle.java_lex.specs.KnownTypes.{LongestType, LongestArgument, One, Nothing, ToldType, ToldArgument, ToldOne, Knows, KnowsBehind, types_at, no_types}
+use Rattle.java_lex.proofs.TypeLaws.{rises, named_on, named_off, bounds_on, bounds_off, argument_any_on, argument_any_off, argument_bounded, closed_end, closed_none, arguments_empty}
+use Rattle.java_lex.proofs.TypeSteps.{told_dims, told_named, told_listed, told_bounds, closed_told, arguments_told, listed_told, argument_told, nothing_there, none_of}
+use Rattle.java_lex.proofs.type_ends.bounded_end.Goals as goal
+
+pub returns-in-Some : goal.returns-in-Some
+returns-in-Some c =
+    argument_bounded (class_at c.args.leaves.now) c.args.at c.in-Some.end c.requires.id c.requires.second
+    (subst (ToldArgument (class_at c.args.leaves.now) bounds (c.args.at + 2)) c.in-Some.is (told_bounds (class_at c.args.leaves.now) c.args.from c.args.types.now c.requires.known (c.args.at + 2) c.types_at.result (omega arith) c.types_at.ensures))
+
+pub returns-in-None : goal.returns-in-None
+returns-in-None c =
+    argument_told (class_at c.args.leaves.now) c.args.from c.args.types.now c.requires.known c.args.at c.typed_end.result (omega arith)
+    (λ _ _. subst (ToldArgument (class_at c.args.leaves.now) bounds (c.args.at + 2)) c.in-None.is (told_bounds (class_at c.args.leaves.now) c.args.from c.args.types.now c.requires.known (c.args.at + 2) c.types_at.result (omega arith) c.types_at.ensures))
+    c.typed_end.ensures
