@@ -257,9 +257,12 @@ offset_segment by p ms f = record {
   each = λ i lt.
       let inside : i < length p = inside_of i (length (offset_leaves by p)) (length p) (offset_length by p) lt in
       let there : i < length ms = inside_of i (length p) (length ms) (sym f.long) inside in
-      let a = f.each i inside in
-      (a.0, offset_mark by p i a.0 a.1, offset_at by ms i there ∙ ap (λ l. offset_leaf by l) a.2
-      ∙ ap (λ l. with_class l a.0) (sym (offset_at by p i inside)));
+      let a = f.each i inside in (
+        a.0,
+        offset_mark by p i a.0 a.1,
+        offset_at by ms i there ∙ ap (λ l. offset_leaf by l) a.2
+            ∙ ap (λ l. with_class l a.0) (sym (offset_at by p i inside)),
+      );
 }
 
 offset_marks : (by : ℕ) (ps : List (List Leaf)) (marked : List Leaf) → AreSegmentsMarked ps marked → AreSegmentsMarked (each_offset by ps) (offset_leaves by marked)

@@ -62,7 +62,7 @@ pub next_segment : (old new ys : List Leaf) (from size k : ℕ) → k ≡ size �
     → AreSegmentsMarked (segments old) (take (from + size) (put_mid from k new ys) ++ rest)
 next_segment old new ys from size k e inside left long segment marked done rest more =
     let cut : segments (drop from old) ≡ take size (drop from new) ∷ segments (drop (from + size) old) =
-            ap segments (sym left) ∙ (segment ∙ ap (λ r. take size (drop from new) ∷ segments r) (ap (drop size) left ∙ drop_twice from size old)) in
+    ap segments (sym left) ∙ (segment ∙ ap (λ r. take size (drop from new) ∷ segments r) (ap (drop size) left ∙ drop_twice from size old)) in
     let both : AreSegmentsMarked (segments (drop from old)) (ys ++ rest) = subst (λ ps. AreSegmentsMarked ps (ys ++ rest)) (sym cut) (ys, rest, refl, marked, more) in
     let there : take (from + size) (put_mid from k new ys) ≡ take from new ++ ys = take-put_mid from k new ys (from + size) (omega arith) inside in
     subst (AreSegmentsMarked (segments old)) (sym (append_assoc (take from new) ys rest) ∙ ap (λ w. w ++ rest) (sym there)) (done (ys ++ rest) both)
@@ -150,7 +150,7 @@ further_on old new ys from size k e f inside size_in segment marked =
     let rest : take (length new - from) (drop from new) ≡ drop from new = take_rest new from in
     let few : size ≤ length (drop from new) = subst (λ (r : List Leaf). size ≤ length r) rest size_in in
     let cut : segments (drop from new) ≡ take size (drop from new) ∷ segments (drop size (drop from new)) =
-            subst (λ (r : List Leaf). segments r ≡ take size r ∷ segments (drop size r)) rest segment in
+    subst (λ (r : List Leaf). segments r ≡ take size r ∷ segments (drop size r)) rest segment in
     let mid : mid_of from k new ≡ take size (drop from new) = ap (λ n. take n (drop from new)) e in
     let same : length ys ≡ size = marked.long ∙ (ap length mid ∙ length-take-le size (drop from new) few) in
     let marked_here : IsSegmentMarked (take size (drop from new)) ys = subst (λ p. IsSegmentMarked p ys) mid marked in

@@ -332,4 +332,3 @@ module _ (c : ℕ → ℕ) (i : ℕ) where
       go : (j : ℕ) → Spans c arguments i j → ⊥
       go j (no-arguments h g _) = n h g
       go j (some-arguments h s) = (m h).not j s
-

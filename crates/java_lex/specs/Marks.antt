@@ -1,7 +1,14 @@
--- The marks of Java's leaves: what a leaf is beyond its class, by the leaves around it. They go by segments: a segment ends
--- with `;`, `{` or `}`, or with the leaves.
-use Rattle.std.specs.Prelude.{◌≡◌, ◌≢◌, ℕ, zero, suc, ◌+◌, ◌-◌, ◌<◌, ◌≤◌, ◌⊎◌, Bool, true, false, ◌||◌, ◌==◌, List, [], ◌∷◌, ◌++◌, length, slice_index_or, if◌then◌else◌}
-use Rattle.java_lex.specs.declared.class.TheConstants.{ID, PRIM, LESS, GREATER, GREATER_EQUAL, COMMA, DOT, BRACKET_OPEN, BRACKET_CLOSE, PAREN_OPEN, PAREN_CLOSE, BRACE_OPEN, BRACE_CLOSE, SEMICOLON, ASSIGN, COLON, COLON_COLON, ARROW, AT, NOT, TILDE, CLASS, INTERFACE, ELSE, DO, FOR, WHILE, SWITCH, IF, TRY, CATCH, SYNCHRONIZED, THIS, SUPER, NEW, VOID, INT, LONG, FLOAT, DOUBLE, CHAR, STRING, BOOL, NULL, LAMBDA, LABEL, TREF, DECL, PREF, LPAR, CAST, ANN, SHGT, SETGT}
+-- The marks of Java's leaves: what a leaf is beyond its class, by the leaves around it. They go by segments: a segment
+-- ends with `;`, `{` or `}`, or with the leaves. Here c gives the class of each leaf of one segment by its number.
+use Rattle.std.specs.Prelude.{◌≡◌, ◌≢◌, ℕ, zero, suc, ◌+◌, ◌-◌, ◌<◌, ◌≤◌, ◌⊎◌, Bool, true, false, ◌||◌, ◌==◌, List, []}
+use Rattle.std.specs.Prelude.{◌∷◌, ◌++◌, length, slice_index_or, if◌then◌else◌}
+use Rattle.java_lex.specs.declared.class.TheConstants.{ID, PRIM, LESS, GREATER, GREATER_EQUAL, COMMA, DOT, BRACKET_OPEN}
+use Rattle.java_lex.specs.declared.class.TheConstants.{BRACKET_CLOSE, PAREN_OPEN, PAREN_CLOSE, BRACE_OPEN, BRACE_CLOSE}
+use Rattle.java_lex.specs.declared.class.TheConstants.{SEMICOLON, ASSIGN, COLON, COLON_COLON, ARROW, AT, NOT, TILDE}
+use Rattle.java_lex.specs.declared.class.TheConstants.{CLASS, INTERFACE, ELSE, DO, FOR, WHILE, SWITCH, IF, TRY, CATCH}
+use Rattle.java_lex.specs.declared.class.TheConstants.{SYNCHRONIZED, THIS, SUPER, NEW, VOID, INT, LONG, FLOAT, DOUBLE}
+use Rattle.java_lex.specs.declared.class.TheConstants.{CHAR, STRING, BOOL, NULL, LAMBDA, LABEL, TREF, DECL, PREF, LPAR}
+use Rattle.java_lex.specs.declared.class.TheConstants.{CAST, ANN, SHGT, SETGT}
 use Rattle.java_lex.specs.Types.{Spans, IsTypeAt, arguments}
 
 -- one of these classes
@@ -15,7 +22,8 @@ among x (y ∷ ys) = (x == y) || among x ys
 pub data ParenClosesAt (c : ℕ → ℕ) : ℕ → ℕ → Type 0 where
   closes : {i j : ℕ} → c i ≡ PAREN_CLOSE → i ≡ j → ParenClosesAt c i j
   closes-later : {i j : ℕ} → c i ≢ PAREN_OPEN → c i ≢ PAREN_CLOSE → ParenClosesAt c (i + 1) j → ParenClosesAt c i j
-  closes-behind : {i m j : ℕ} → c i ≡ PAREN_OPEN → ParenClosesAt c (i + 1) m → ParenClosesAt c (m + 1) j → ParenClosesAt c i j
+  closes-behind : {i m j : ℕ} → c i ≡ PAREN_OPEN → ParenClosesAt c (i + 1) m → ParenClosesAt c (m + 1) j
+      → ParenClosesAt c i j
 
 -- a bracket and its counterpart
 abbrev pub AreBrackets : ℕ → ℕ → Type 0
@@ -24,7 +32,8 @@ AreBrackets x y = ((x ≡ PAREN_OPEN) × (y ≡ PAREN_CLOSE)) ⊎ ((x ≡ BRACKE
 -- Leaf j is a `)` or `]`, and between leaf i and it each `( )` and `[ ]` has its counterpart.
 pub data IsBalanced (c : ℕ → ℕ) : ℕ → ℕ → Type 0 where
   balanced : {i j : ℕ} → (c i ≡ PAREN_CLOSE) ⊎ (c i ≡ BRACKET_CLOSE) → i ≡ j → IsBalanced c i j
-  one-more : {i j : ℕ} → among (c i) (PAREN_OPEN ∷ PAREN_CLOSE ∷ BRACKET_OPEN ∷ BRACKET_CLOSE ∷ []) ≡ false → IsBalanced c (i + 1) j → IsBalanced c i j
+  one-more : {i j : ℕ} → among (c i) (PAREN_OPEN ∷ PAREN_CLOSE ∷ BRACKET_OPEN ∷ BRACKET_CLOSE ∷ []) ≡ false
+      → IsBalanced c (i + 1) j → IsBalanced c i j
   one-group : {i m j : ℕ} → AreBrackets (c i) (c m) → IsBalanced c (i + 1) m → IsBalanced c (m + 1) j → IsBalanced c i j
 
 -- The balanced `( )` or `[ ]` that begins with leaf i ends with leaf j.
@@ -35,7 +44,8 @@ IsGroup c i j = AreBrackets (c i) (c j) × IsBalanced c (i + 1) j
 pub data EndsAsDeclaration (c : ℕ → ℕ) : ℕ → Type 0 where
   stops : {i : ℕ} → (c i ≡ SEMICOLON) ⊎ (c i ≡ ASSIGN) → EndsAsDeclaration c i
   over : {i m : ℕ} → IsGroup c i m → EndsAsDeclaration c (m + 1) → EndsAsDeclaration c i
-  past : {i : ℕ} → among (c i) (SEMICOLON ∷ ASSIGN ∷ PAREN_CLOSE ∷ BRACKET_CLOSE ∷ BRACE_OPEN ∷ BRACE_CLOSE ∷ []) ≡ false
+  past : {i : ℕ}
+      → among (c i) (SEMICOLON ∷ ASSIGN ∷ PAREN_CLOSE ∷ BRACKET_CLOSE ∷ BRACE_OPEN ∷ BRACE_CLOSE ∷ []) ≡ false
       → ((m : ℕ) → IsGroup c i m → ⊥) → EndsAsDeclaration c (i + 1) → EndsAsDeclaration c i
 
 -- ---- names
@@ -70,48 +80,61 @@ module _ (c : ℕ → ℕ) (tight : ℕ → Bool) where
     next : {i : ℕ} → c i ≡ GREATER → Adjoins i → EndsInSet (i + 1) → EndsInSet i
 
 module _ (c : ℕ → ℕ) (tight : ℕ → Bool) (i : ℕ) where
+  -- the one parameter of a lambda
   abbrev pub IsLambda : Type 0
   IsLambda = (c i ≡ ID) × (c (i + 1) ≡ ARROW)
 
+  -- a label
   abbrev pub IsLabel : Type 0
   IsLabel =
       (c i ≡ ID) × (c (i + 1) ≡ COLON)
       × ((among (class_before c i) (SEMICOLON ∷ BRACE_OPEN ∷ BRACE_CLOSE ∷ ELSE ∷ DO ∷ []) ≡ true)
-      ⊎ ((class_before c i ≡ COLON) × (among (c (i + 2)) (FOR ∷ WHILE ∷ DO ∷ SWITCH ∷ IF ∷ TRY ∷ SYNCHRONIZED ∷ BRACE_OPEN ∷ []) ≡ true)))
+      ⊎ ((class_before c i ≡ COLON)
+      × (among (c (i + 2)) (FOR ∷ WHILE ∷ DO ∷ SWITCH ∷ IF ∷ TRY ∷ SYNCHRONIZED ∷ BRACE_OPEN ∷ []) ≡ true)))
 
+  -- the first name of a type that is no expression: before `::`, or before `.` and `class`
   abbrev pub IsTref : Type 0
   IsTref =
       (c i ≡ ID) × (class_before c i ≢ DOT)
       × ((j : ℕ) × IsTypeAt c i j
-      × (((IsPlain c i j → ⊥) × (c j ≡ COLON_COLON)) ⊎ ((c (j - 1) ≡ BRACKET_CLOSE) × (c j ≡ DOT) × (c (j + 1) ≡ CLASS))))
+      × (((IsPlain c i j → ⊥) × (c j ≡ COLON_COLON))
+      ⊎ ((c (j - 1) ≡ BRACKET_CLOSE) × (c j ≡ DOT) × (c (j + 1) ≡ CLASS))))
 
+  -- the first name of the type of a declaration
   abbrev pub IsDecl : Type 0
   IsDecl =
       (c i ≡ ID) × (among (class_before c i) (DOT ∷ AT ∷ []) ≡ false)
       × ((j : ℕ) × IsTypeAt c i j × (c j ≡ ID) × Declares c (j + 1))
 
+  -- a primitive type in an expression: before `.` or `::`
   abbrev pub IsPref : Type 0
   IsPref = (c i ≡ PRIM) × ((j : ℕ) × IsTypeAt c i j × (among (c j) (DOT ∷ COLON_COLON ∷ []) ≡ true))
 
+  -- the `(` of the parameters of a lambda
   abbrev pub IsLpar : Type 0
   IsLpar = (c i ≡ PAREN_OPEN) × ((j : ℕ) × ParenClosesAt c (i + 1) j × (c (j + 1) ≡ ARROW))
 
+  -- the `(` of a cast
   abbrev pub IsCast : Type 0
   IsCast =
       (c i ≡ PAREN_OPEN)
-      × (among (class_before c i) (ID ∷ IF ∷ WHILE ∷ FOR ∷ SWITCH ∷ SYNCHRONIZED ∷ CATCH ∷ TRY ∷ THIS ∷ SUPER ∷ []) ≡ false)
+      × (among (class_before c i)
+      (ID ∷ IF ∷ WHILE ∷ FOR ∷ SWITCH ∷ SYNCHRONIZED ∷ CATCH ∷ TRY ∷ THIS ∷ SUPER ∷ []) ≡ false)
       × ((j : ℕ) × IsTypeAt c (i + 1) j × (c j ≡ PAREN_CLOSE)
       × ((c (i + 1) ≡ PRIM)
-      ⊎ (among (c (j + 1)) (ID ∷ PRIM ∷ INT ∷ LONG ∷ FLOAT ∷ DOUBLE ∷ CHAR ∷ STRING ∷ BOOL ∷ NULL ∷ PAREN_OPEN ∷ NOT ∷ TILDE ∷ THIS ∷ SUPER ∷ NEW ∷ VOID ∷ []) ≡ true)))
+      ⊎ (among (c (j + 1))
+      (ID ∷ PRIM ∷ INT ∷ LONG ∷ FLOAT ∷ DOUBLE ∷ CHAR ∷ STRING ∷ BOOL ∷ NULL ∷ PAREN_OPEN ∷ NOT ∷ TILDE ∷ THIS ∷ SUPER
+      ∷ NEW ∷ VOID ∷ []) ≡ true)))
 
+  -- the `@` of `@interface`
   abbrev pub IsAnn : Type 0
   IsAnn = (c i ≡ AT) × (c (i + 1) ≡ INTERFACE)
 
-  -- no type arguments that begin before go on past the leaf behind
+  -- the first `>` of a shift: no type arguments that begin before it go on past the leaf behind
   abbrev pub IsShift : Type 0
   IsShift = (c i ≡ GREATER) × Adjoins c tight i × ((k j : ℕ) → k < i → Spans c arguments k j → j ≤ i + 1)
 
-  -- the first of these that holds
+  -- the first of these that holds, and else the class stays
   abbrev first : Type 0 → ℕ → (ℕ → Type 0) → ℕ → Type 0
   first Holds mark Others m = (Holds × (m ≡ mark)) ⊎ ((Holds → ⊥) × Others m)
 

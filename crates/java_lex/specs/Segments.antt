@@ -12,9 +12,11 @@ class_at leaves i = (slice_index_or leaves i no_leaf).class
 abbrev pub is_tight : List Leaf → ℕ → Bool
 is_tight leaves i = (slice_index_or leaves i no_leaf).prefix_from == (slice_index_or leaves i no_leaf).from
 
+-- the leaves that end a segment
 abbrev pub separates : Leaf → Bool
 separates l = among l.class (SEMICOLON ∷ BRACE_OPEN ∷ BRACE_CLOSE ∷ [])
 
+-- a leaf before the first of these segments
 abbrev pub with_leaf : Leaf → List (List Leaf) → List (List Leaf)
 with_leaf l [] = (l ∷ []) ∷ []
 with_leaf l (p ∷ ps) = (l ∷ p) ∷ ps

@@ -1,6 +1,7 @@
 -- Types and type arguments among leaves, by the classes of the leaves.
 use Rattle.std.specs.Prelude.{◌≡◌, ℕ, ◌+◌, ◌<◌, ◌≤◌, ◌⊎◌}
-use Rattle.java_lex.specs.declared.class.TheConstants.{ID, PRIM, LESS, GREATER, COMMA, DOT, BRACKET_OPEN, BRACKET_CLOSE, QUESTION, EXTENDS, SUPER, AND}
+use Rattle.java_lex.specs.declared.class.TheConstants.{ID, PRIM, LESS, GREATER, COMMA, DOT, BRACKET_OPEN, BRACKET_CLOSE}
+use Rattle.java_lex.specs.declared.class.TheConstants.{QUESTION, EXTENDS, SUPER, AND}
 
 -- what types are made of
 pub data TypePart : Type 0 where
@@ -12,7 +13,7 @@ pub data TypePart : Type 0 where
   named : TypePart
   -- a type
   typed : TypePart
-  -- types with_leaf by `&`
+  -- types that `&` joins
   bounds : TypePart
   -- an argument
   argument : TypePart
@@ -37,7 +38,8 @@ pub data Spans (c : ℕ → ℕ) : TypePart → ℕ → ℕ → Type 0 where
   more-bounds : {i m j : ℕ} → Spans c typed i m → c m ≡ AND → Spans c bounds (m + 1) j → Spans c bounds i j
   a-type : {i j : ℕ} → Spans c typed i j → Spans c argument i j
   any : {i j : ℕ} → c i ≡ QUESTION → j ≡ i + 1 → Spans c argument i j
-  any-bound : {i j : ℕ} → c i ≡ QUESTION → (c (i + 1) ≡ EXTENDS) ⊎ (c (i + 1) ≡ SUPER) → Spans c typed (i + 2) j → Spans c argument i j
+  any-bound : {i j : ℕ} → c i ≡ QUESTION → (c (i + 1) ≡ EXTENDS) ⊎ (c (i + 1) ≡ SUPER) → Spans c typed (i + 2) j
+      → Spans c argument i j
   bounded : {i j : ℕ} → c i ≡ ID → c (i + 1) ≡ EXTENDS → Spans c bounds (i + 2) j → Spans c argument i j
   one-argument : {i m j : ℕ} → Spans c argument i m → Spans c closed m j → Spans c listed i j
   at-end : {i j : ℕ} → c i ≡ GREATER → j ≡ i + 1 → Spans c closed i j

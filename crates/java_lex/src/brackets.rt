@@ -2,13 +2,15 @@
 ghost use Rattle.std.specs.Prelude.{◌≡◌, ◌≢◌, ℕ, ◌+◌, ◌<◌, ◌≤◌, ◌^◌, ◌↔◌, IsTrue, length};
 ghost use Rattle.java_lex.specs.Marks.{AreBrackets, EndsInSet};
 ghost use Rattle.java_lex.specs.Segments.{class_at, is_tight};
-ghost use Rattle.java_lex.specs.KnownBrackets.{ToldBalanced, ToldWhether, ToldClose, KnowsBrackets, KnowsBracketsBehind, KnowsSet, brackets_at, no_brackets};
+ghost use Rattle.java_lex.specs.KnownBrackets.{ToldBalanced, ToldWhether, ToldClose, KnowsBrackets};
+ghost use Rattle.java_lex.specs.KnownBrackets.{KnowsBracketsBehind, KnowsSet, brackets_at, no_brackets};
 
-use rw_base::Leaf;
 use crate::class::*;
-use crate::type_ends::class_at;
 use crate::shift::adjoins;
+use crate::type_ends::class_at;
+use rw_base::Leaf;
 
+// What stands from a leaf on.
 #[derive(Clone, Copy)]
 pub(crate) struct Brackets {
     // the `)` or `]` up to which all brackets from the leaf on are balanced
@@ -22,7 +24,7 @@ pub(crate) struct Brackets {
 }
 
 impl Brackets {
-    // Nothing is known of what stands behind the last leaf.
+    // Nothing stands behind the last leaf.
     pub(crate) fn none() -> Brackets
         ensures { result ≡ no_brackets }
     {
@@ -64,6 +66,7 @@ fn end_behind(leaves: &[Leaf], brackets: &[Brackets], at: u32, close: u16) -> Op
     }
 }
 
+// The `)` or `]` up to which all brackets from leaf `at` on are balanced.
 fn balanced_end(leaves: &[Leaf], brackets: &[Brackets], at: u32) -> Option<u32>
     requires few { length leaves.now < 2 ^ 31 }
     requires known { KnowsBracketsBehind (class_at leaves.now) at brackets.now }
@@ -79,7 +82,7 @@ fn balanced_end(leaves: &[Leaf], brackets: &[Brackets], at: u32) -> Option<u32>
     }
 }
 
-// The same of the search.
+// The same where a bracket stands at leaf `at`.
 fn leads_behind(leaves: &[Leaf], brackets: &[Brackets], at: u32, close: u16) -> bool
     requires few { length leaves.now < 2 ^ 31 }
     requires known { KnowsBracketsBehind (class_at leaves.now) at brackets.now }
@@ -98,6 +101,7 @@ fn leads_behind(leaves: &[Leaf], brackets: &[Brackets], at: u32, close: u16) -> 
     }
 }
 
+// Whether the search for `;` or `=` from leaf `at` on succeeds.
 fn leads(leaves: &[Leaf], brackets: &[Brackets], at: u32) -> bool
     requires few { length leaves.now < 2 ^ 31 }
     requires known { KnowsBracketsBehind (class_at leaves.now) at brackets.now }
@@ -117,6 +121,7 @@ fn leads(leaves: &[Leaf], brackets: &[Brackets], at: u32) -> bool
     }
 }
 
+// The first `)` from leaf `at` on that no `(` from there on opens.
 fn close_end(leaves: &[Leaf], brackets: &[Brackets], at: u32) -> Option<u32>
     requires few { length leaves.now < 2 ^ 31 }
     requires known { KnowsBracketsBehind (class_at leaves.now) at brackets.now }
@@ -142,7 +147,8 @@ fn close_end(leaves: &[Leaf], brackets: &[Brackets], at: u32) -> Option<u32>
 // Whether the adjoining leaves from leaf `at` on end in `>=`.
 fn set_from(leaves: &[Leaf], brackets: &[Brackets], at: u32) -> bool
     requires few { length leaves.now < 2 ^ 31 }
-    requires sets { (k : ℕ) → at < k → KnowsSet (class_at leaves.now) (is_tight leaves.now) k (brackets_at brackets.now k) }
+    requires sets { (k : ℕ) → at < k
+        → KnowsSet (class_at leaves.now) (is_tight leaves.now) k (brackets_at brackets.now k) }
     requires inside { at < length leaves.now }
     ensures { IsTrue result ↔ EndsInSet (class_at leaves.now) (is_tight leaves.now) at }
 {
@@ -158,10 +164,12 @@ fn set_from(leaves: &[Leaf], brackets: &[Brackets], at: u32) -> bool
     }
 }
 
+// What stands from leaf `at` on.
 fn brackets_from(leaves: &[Leaf], brackets: &[Brackets], at: u32) -> Brackets
     requires few { length leaves.now < 2 ^ 31 }
     requires known { KnowsBracketsBehind (class_at leaves.now) at brackets.now }
-    requires sets { (k : ℕ) → at < k → KnowsSet (class_at leaves.now) (is_tight leaves.now) k (brackets_at brackets.now k) }
+    requires sets { (k : ℕ) → at < k
+        → KnowsSet (class_at leaves.now) (is_tight leaves.now) k (brackets_at brackets.now k) }
     requires inside { at < length leaves.now }
     ensures known { KnowsBrackets (class_at leaves.now) at result }
     ensures set { KnowsSet (class_at leaves.now) (is_tight leaves.now) at result }

@@ -1,26 +1,33 @@
 // The mark of each leaf of a segment.
-ghost use Rattle.std.specs.Prelude.{[], ◌∷◌, ◌≡◌, ◌≢◌, ℕ, ◌+◌, ◌<◌, ◌≤◌, ◌↔◌, IsTrue, ◌^◌, length, slice_index, slice_index_or};
+ghost use Rattle.std.specs.Prelude.{[], ◌∷◌, ◌≡◌, ◌≢◌, ℕ, ◌+◌, ◌<◌, ◌≤◌, ◌↔◌, IsTrue, ◌^◌, length, slice_index};
+ghost use Rattle.std.specs.Prelude.{slice_index_or};
 ghost use Rattle.java_lex.specs.Types.{arguments, typed};
-ghost use Rattle.java_lex.specs.Marks.{among, class_before, IsMark, IsLambda, IsLabel, IsTref, IsDecl, IsPref, IsLpar, IsCast, IsAnn, IsShift, EndsInSet, Adjoins, Declares, IsPlain};
+ghost use Rattle.java_lex.specs.Marks.{among, class_before, IsMark, IsLambda, IsLabel, IsTref, IsDecl, IsPref, IsLpar};
+ghost use Rattle.java_lex.specs.Marks.{IsCast, IsAnn, IsShift, EndsInSet, Adjoins, Declares, IsPlain};
 ghost use Rattle.java_lex.specs.Segments.{class_at, is_tight, with_class};
 ghost use Rattle.rw_base.specs.Arena.{no_leaf};
 ghost use Rattle.java_lex.specs.KnownTypes.{Knows, types_at, ToldType};
 ghost use Rattle.java_lex.specs.KnownBrackets.{KnowsBrackets, KnowsSet, brackets_at};
 ghost use Rattle.java_lex.specs.KnownReach.{IsFurthest};
 
-use rw_base::Leaf;
-use crate::class::*;
 use crate::brackets::{Brackets, brackets_at};
-use crate::type_ends::{TypeEnds, class_at, typed_end};
+use crate::class::*;
 use crate::shift::{adjoins, is_shift};
+use crate::type_ends::{TypeEnds, class_at, typed_end};
+use rw_base::Leaf;
 
 // The class of the leaf before.
 fn class_before(leaves: &[Leaf], i: usize) -> u16
     ensures { result ≡ class_before (class_at leaves.now) i }
 {
-    if i == 0 { SEMICOLON } else { class_at(leaves, i - 1) }
+    if i == 0 {
+        SEMICOLON
+    } else {
+        class_at(leaves, i - 1)
+    }
 }
 
+// Whether the leaf is the one parameter of a lambda.
 fn is_lambda(leaves: &[Leaf], i: usize) -> bool
     requires { i < length leaves.now }
     ensures { IsTrue result ↔ IsLambda (class_at leaves.now) (is_tight leaves.now) i }
@@ -71,6 +78,7 @@ fn is_decl(leaves: &[Leaf], types: &[TypeEnds], brackets: &[Brackets], i: u32) -
     }
 }
 
+// The mark of `>`.
 fn greater_mark(leaves: &[Leaf], brackets: &[Brackets], i: u32, furthest: u32) -> u16
     requires inside { i < length leaves.now }
     requires sets { (k : ℕ) → KnowsSet (class_at leaves.now) (is_tight leaves.now) k (brackets_at brackets.now k) }
@@ -81,9 +89,14 @@ fn greater_mark(leaves: &[Leaf], brackets: &[Brackets], i: u32, furthest: u32) -
     if !is_shift(leaves, i as usize, furthest) {
         return GREATER;
     }
-    if brackets_at(brackets, i).set { SETGT } else { SHGT }
+    if brackets_at(brackets, i).set {
+        SETGT
+    } else {
+        SHGT
+    }
 }
 
+// Whether the leaf is a label.
 fn is_label(leaves: &[Leaf], i: usize) -> bool
     requires { i < length leaves.now }
     ensures { IsTrue result ↔ IsLabel (class_at leaves.now) (is_tight leaves.now) i }
@@ -121,6 +134,7 @@ fn is_plain(leaves: &[Leaf], i: u32, end: u32) -> bool
     }
 }
 
+// Whether the leaf is a primitive type in an expression.
 fn is_pref(leaves: &[Leaf], types: &[TypeEnds], i: u32) -> bool
     requires few { length leaves.now < 2 ^ 31 }
     requires known { (k : ℕ) → Knows (class_at leaves.now) k (types_at types.now k) }
@@ -136,6 +150,7 @@ fn is_pref(leaves: &[Leaf], types: &[TypeEnds], i: u32) -> bool
     }
 }
 
+// Whether the leaf is the `(` of the parameters of a lambda.
 fn is_lpar(leaves: &[Leaf], brackets: &[Brackets], i: u32) -> bool
     requires few { length leaves.now < 2 ^ 31 }
     requires inside { i < length leaves.now }
@@ -149,6 +164,7 @@ fn is_lpar(leaves: &[Leaf], brackets: &[Brackets], i: u32) -> bool
     }
 }
 
+// Whether the leaf is the `@` of `@interface`.
 fn is_ann(leaves: &[Leaf], i: usize) -> bool
     requires { class_at leaves.now i ≡ AT }
     ensures { IsTrue result ↔ IsAnn (class_at leaves.now) (is_tight leaves.now) i }
@@ -156,6 +172,7 @@ fn is_ann(leaves: &[Leaf], i: usize) -> bool
     class_at(leaves, i + 1) == INTERFACE
 }
 
+// Whether the leaf is the first name of a type before `::` or `.class`.
 fn is_tref(leaves: &[Leaf], types: &[TypeEnds], i: u32) -> bool
     requires few { length leaves.now < 2 ^ 31 }
     requires known { (k : ℕ) → Knows (class_at leaves.now) k (types_at types.now k) }
@@ -181,7 +198,9 @@ fn is_tref(leaves: &[Leaf], types: &[TypeEnds], i: u32) -> bool
 
 // Whether an operand of a cast begins with such a leaf.
 fn begins_operand(class: u16) -> bool
-    ensures { result ≡ among class (ID ∷ PRIM ∷ INT ∷ LONG ∷ FLOAT ∷ DOUBLE ∷ CHAR ∷ STRING ∷ BOOL ∷ NULL ∷ PAREN_OPEN ∷ NOT ∷ TILDE ∷ THIS ∷ SUPER ∷ NEW ∷ VOID ∷ []) }
+    ensures { result ≡ among class
+        (ID ∷ PRIM ∷ INT ∷ LONG ∷ FLOAT ∷ DOUBLE ∷ CHAR ∷ STRING ∷ BOOL ∷ NULL ∷ PAREN_OPEN ∷ NOT ∷ TILDE ∷ THIS ∷ SUPER
+        ∷ NEW ∷ VOID ∷ []) }
 {
     class == ID
         || class == PRIM
@@ -218,6 +237,7 @@ fn bars_cast(class: u16) -> bool
         || class == SUPER
 }
 
+// Whether the leaf is the `(` of a cast.
 fn is_cast(leaves: &[Leaf], types: &[TypeEnds], i: u32) -> bool
     requires few { length leaves.now < 2 ^ 31 }
     requires inside { i < length leaves.now }
@@ -238,6 +258,7 @@ fn is_cast(leaves: &[Leaf], types: &[TypeEnds], i: u32) -> bool
     }
 }
 
+// The mark of `(`.
 fn paren_mark(leaves: &[Leaf], types: &[TypeEnds], brackets: &[Brackets], i: u32) -> u16
     requires few { length leaves.now < 2 ^ 31 }
     requires inside { i < length leaves.now }
@@ -249,18 +270,28 @@ fn paren_mark(leaves: &[Leaf], types: &[TypeEnds], brackets: &[Brackets], i: u32
     if is_lpar(leaves, brackets, i) {
         return LPAR;
     }
-    if is_cast(leaves, types, i) { CAST } else { PAREN_OPEN }
+    if is_cast(leaves, types, i) {
+        CAST
+    } else {
+        PAREN_OPEN
+    }
 }
 
+// The mark of the name of a primitive type.
 fn prim_mark(leaves: &[Leaf], types: &[TypeEnds], i: u32) -> u16
     requires few { length leaves.now < 2 ^ 31 }
     requires types { (k : ℕ) → Knows (class_at leaves.now) k (types_at types.now k) }
     requires prim { class_at leaves.now i ≡ PRIM }
     ensures { IsMark (class_at leaves.now) (is_tight leaves.now) i result }
 {
-    if is_pref(leaves, types, i) { PREF } else { PRIM }
+    if is_pref(leaves, types, i) {
+        PREF
+    } else {
+        PRIM
+    }
 }
 
+// The mark of `@`.
 fn at_mark(leaves: &[Leaf], i: usize) -> u16
     requires { class_at leaves.now i ≡ AT }
     ensures { IsMark (class_at leaves.now) (is_tight leaves.now) i result }
@@ -268,6 +299,7 @@ fn at_mark(leaves: &[Leaf], i: usize) -> u16
     if is_ann(leaves, i) { ANN } else { AT }
 }
 
+// The mark of an identifier.
 fn id_mark(leaves: &[Leaf], types: &[TypeEnds], brackets: &[Brackets], i: u32) -> u16
     requires few { length leaves.now < 2 ^ 31 }
     requires inside { i < length leaves.now }
@@ -285,11 +317,21 @@ fn id_mark(leaves: &[Leaf], types: &[TypeEnds], brackets: &[Brackets], i: u32) -
     if is_tref(leaves, types, i) {
         return TREF;
     }
-    if is_decl(leaves, types, brackets, i) { DECL } else { ID }
+    if is_decl(leaves, types, brackets, i) {
+        DECL
+    } else {
+        ID
+    }
 }
 
 // The mark of leaf i, where `furthest` is how far type arguments that begin before it reach.
-pub(crate) fn mark_at(leaves: &[Leaf], types: &[TypeEnds], brackets: &[Brackets], i: u32, furthest: u32) -> u16
+pub(crate) fn mark_at(
+    leaves: &[Leaf],
+    types: &[TypeEnds],
+    brackets: &[Brackets],
+    i: u32,
+    furthest: u32,
+) -> u16
     requires few { length leaves.now < 2 ^ 31 }
     requires inside { i < length leaves.now }
     requires types { (k : ℕ) → Knows (class_at leaves.now) k (types_at types.now k) }

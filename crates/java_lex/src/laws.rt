@@ -65,9 +65,7 @@ pub fn cut_together()
 
 /// A list of leaves has one list of marks.
 pub fn marks_are_one()
-    ensures {
-        (leaves marked others : List Leaf) → AreMarked leaves marked → AreMarked leaves others → marked ≡ others
-    }
+    ensures { (leaves marked others : List Leaf) → AreMarked leaves marked → AreMarked leaves others → marked ≡ others }
 {}
 
 /// Marks change the classes of leaves alone.
@@ -77,33 +75,25 @@ pub fn marks_keep_leaves()
 
 /// The marked leaves of a file lie as its leaves do.
 pub fn marks_keep_tiles()
-    ensures {
-        (bytes : List ℕ) (leaves marked : List Leaf) (bad : Option Bad)
-        → AreTiles bytes leaves bad → AreMarked leaves marked → AreTiles bytes marked bad
-    }
+    ensures { (bytes : List ℕ) (leaves marked : List Leaf) (bad : Option Bad)
+        → AreTiles bytes leaves bad → AreMarked leaves marked → AreTiles bytes marked bad }
 {}
 
 /// Leaves up to one that is `;`, `{` or `}` and leaves behind it are together marked as each of them.
 pub fn marks_join()
-    ensures {
-        (xs ys ms ns : List Leaf) → ends_segment xs ≡ true → AreMarked xs ms → AreMarked ys ns
-        → AreMarked (xs ++ ys) (ms ++ ns)
-    }
+    ensures { (xs ys ms ns : List Leaf) → ends_segment xs ≡ true → AreMarked xs ms → AreMarked ys ns
+        → AreMarked (xs ++ ys) (ms ++ ns) }
 {}
 
-/// No mark depends on what stands before or behind a `;`, `{` or `}`: of marked leaves each part that such leaves bound is
-/// marked as it is alone.
+/// No mark depends on what stands behind the next `;`, `{` or `}`, nor on what stands before the last: marked leaves
+/// that are cut behind such a leaf are two parts, marked as each of them alone.
 pub fn marks_part()
-    ensures {
-        (xs ys marked : List Leaf) → ends_segment xs ≡ true → AreMarked (xs ++ ys) marked
-        → (ms ns : List Leaf) × (marked ≡ ms ++ ns) × AreMarked xs ms × AreMarked ys ns
-    }
+    ensures { (xs ys marked : List Leaf) → ends_segment xs ≡ true → AreMarked (xs ++ ys) marked
+        → (ms ns : List Leaf) × (marked ≡ ms ++ ns) × AreMarked xs ms × AreMarked ys ns }
 {}
 
 /// Marks are the same wherever the leaves stand.
 pub fn marks_anywhere()
-    ensures {
-        (by : ℕ) (leaves marked : List Leaf) → AreMarked leaves marked
-        → AreMarked (offset_leaves by leaves) (offset_leaves by marked)
-    }
+    ensures { (by : ℕ) (leaves marked : List Leaf) → AreMarked leaves marked
+        → AreMarked (offset_leaves by leaves) (offset_leaves by marked) }
 {}

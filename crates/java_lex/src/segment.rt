@@ -1,20 +1,23 @@
 // Leaves cut into segments, and the marks of all segments.
-ghost use Rattle.std.specs.Prelude.{max, ◌≡◌, ℕ, ◌∷◌, ◌+◌, ◌<◌, ◌≤◌, ◌^◌, take, drop, length, IfOk, OnOk, OnErr, slice_index, slice_index_or};
+ghost use Rattle.std.specs.Prelude.{max, ◌≡◌, ℕ, ◌∷◌, ◌+◌, ◌<◌, ◌≤◌, ◌^◌, take, drop, length, IfOk, OnOk, OnErr};
+ghost use Rattle.std.specs.Prelude.{slice_index, slice_index_or};
 ghost use Rattle.java_lex.specs.Marks.{IsMark};
-ghost use Rattle.java_lex.specs.Segments.{class_at, is_tight, with_class, separates, segments, IsSegmentMarked, AreMarked};
+ghost use Rattle.java_lex.specs.Segments.{class_at, is_tight, with_class, separates, segments, IsSegmentMarked};
+ghost use Rattle.java_lex.specs.Segments.{AreMarked};
 ghost use Rattle.rw_base.specs.Arena.{no_leaf};
 ghost use Rattle.java_lex.specs.KnownSegments.{longest_of};
 ghost use Rattle.java_lex.specs.KnownTypes.{Knows, types_at};
 ghost use Rattle.java_lex.specs.KnownBrackets.{KnowsBrackets, brackets_at};
 
+use crate::brackets::{Brackets, fill_brackets};
+use crate::choice::mark_at;
+use crate::class::*;
+use crate::shift::furthest_end;
+use crate::type_ends::{TypeEnds, fill_types};
 use rw_base::{Leaf, Mem};
 use std::alloc::Global;
-use crate::class::*;
-use crate::brackets::{Brackets, fill_brackets};
-use crate::type_ends::{TypeEnds, fill_types};
-use crate::choice::mark_at;
-use crate::shift::furthest_end;
 
+// Whether the leaf is `;`, `{` or `}`.
 fn is_end(leaf: Leaf) -> bool
     ensures { result ≡ separates leaf }
 {
@@ -40,7 +43,9 @@ fn segment_size(leaves: &[Leaf]) -> usize
 fn put_marks(leaves: &mut [Leaf], marks: &[u16])
     requires { length leaves.old ≤ length marks.now }
     ensures long { length leaves.new ≡ length leaves.old }
-    ensures each { (k : ℕ) → k < length leaves.old → slice_index_or leaves.new k no_leaf ≡ with_class (slice_index_or leaves.old k no_leaf) (slice_index marks.now k) }
+    ensures each { (k : ℕ) → k < length leaves.old
+        → slice_index_or leaves.new k no_leaf
+        ≡ with_class (slice_index_or leaves.old k no_leaf) (slice_index marks.now k) }
 {
     for i in 0..leaves.len() {
         leaves[i].class = marks[i];
@@ -53,7 +58,8 @@ fn find_marks(leaves: &[Leaf], types: &mut [TypeEnds], brackets: &mut [Brackets]
     requires types { length types.old ≡ length leaves.now }
     requires brackets { length brackets.old ≡ length leaves.now }
     requires marks { length marks.old ≡ length leaves.now }
-    ensures { (k : ℕ) → k < length leaves.now → IsMark (class_at leaves.now) (is_tight leaves.now) k (slice_index marks.new k) }
+    ensures { (k : ℕ) → k < length leaves.now
+        → IsMark (class_at leaves.now) (is_tight leaves.now) k (slice_index marks.new k) }
 {
     fill_types(leaves, types);
     fill_brackets(leaves, brackets);
@@ -65,7 +71,12 @@ fn find_marks(leaves: &[Leaf], types: &mut [TypeEnds], brackets: &mut [Brackets]
 }
 
 // Marks a segment.
-fn mark_segment(leaves: &mut [Leaf], types: &mut [TypeEnds], brackets: &mut [Brackets], marks: &mut [u16])
+fn mark_segment(
+    leaves: &mut [Leaf],
+    types: &mut [TypeEnds],
+    brackets: &mut [Brackets],
+    marks: &mut [u16],
+)
     requires few { length leaves.old < 2 ^ 31 }
     requires types { length types.old ≡ length leaves.old }
     requires brackets { length brackets.old ≡ length leaves.old }
@@ -76,6 +87,7 @@ fn mark_segment(leaves: &mut [Leaf], types: &mut [TypeEnds], brackets: &mut [Bra
     put_marks(leaves, &*marks);
 }
 
+// The larger of two numbers.
 fn larger(a: usize, b: usize) -> usize
     ensures { result ≡ max a b }
 {
@@ -97,7 +109,12 @@ fn longest_segment(leaves: &[Leaf]) -> usize
 }
 
 // Marks all segments, by tables that have room for each of them.
-fn mark_all(leaves: &mut [Leaf], types: &mut [TypeEnds], brackets: &mut [Brackets], marks: &mut [u16])
+fn mark_all(
+    leaves: &mut [Leaf],
+    types: &mut [TypeEnds],
+    brackets: &mut [Brackets],
+    marks: &mut [u16],
+)
     requires few { length leaves.old < 2 ^ 31 }
     requires types { longest_of (segments leaves.old) ≤ length types.old }
     requires brackets { length brackets.old ≡ length types.old }

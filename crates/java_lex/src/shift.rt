@@ -6,10 +6,11 @@ ghost use Rattle.java_lex.specs.Segments.{class_at, is_tight};
 ghost use Rattle.java_lex.specs.KnownTypes.{Knows, types_at};
 ghost use Rattle.java_lex.specs.KnownReach.{IsFurthest};
 
-use rw_base::Leaf;
 use crate::class::*;
 use crate::type_ends::{TypeEnds, class_at, types_at};
+use rw_base::Leaf;
 
+// Whether the next leaf is `>` or `>=` without anything between.
 pub(crate) fn adjoins(leaves: &[Leaf], i: usize) -> bool
     requires { i < length leaves.now }
     ensures adjoins { IsTrue result ↔ Adjoins (class_at leaves.now) (is_tight leaves.now) i }
@@ -30,12 +31,11 @@ pub(crate) fn furthest_end(leaves: &[Leaf], types: &[TypeEnds], i: u32, furthest
 {
     match types_at(types, i).arguments {
         None => furthest,
-        Some(end) => {
-            if furthest < end { end } else { furthest }
-        }
+        Some(end) => { if furthest < end { end } else { furthest } }
     }
 }
 
+// Whether the leaf is the first `>` of a shift.
 pub(crate) fn is_shift(leaves: &[Leaf], i: usize, furthest: u32) -> bool
     requires inside { i < length leaves.now }
     requires furthest { IsFurthest (class_at leaves.now) i furthest }

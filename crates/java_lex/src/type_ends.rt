@@ -2,10 +2,11 @@
 ghost use Rattle.std.specs.Prelude.{◌≡◌, ◌≢◌, ℕ, ◌+◌, ◌<◌, ◌≤◌, ◌^◌, ◌⊎◌, length};
 ghost use Rattle.java_lex.specs.Types.{dims, dotted, named, typed, bounds, argument, listed, closed, arguments};
 ghost use Rattle.java_lex.specs.Segments.{class_at};
-ghost use Rattle.java_lex.specs.KnownTypes.{LongestType, ToldType, ToldArgument, ToldOne, Knows, KnowsBehind, types_at, no_types};
+ghost use Rattle.java_lex.specs.KnownTypes.{LongestType, ToldType, ToldArgument, ToldOne, Knows, KnowsBehind, types_at};
+ghost use Rattle.java_lex.specs.KnownTypes.{no_types};
 
-use rw_base::Leaf;
 use crate::class::*;
+use rw_base::Leaf;
 
 // The leaves at which what begins at a leaf ends.
 #[derive(Clone, Copy)]
@@ -32,11 +33,16 @@ impl TypeEnds {
     }
 }
 
+// The class of a leaf, or END where none is there.
 pub(crate) fn class_at(leaves: &[Leaf], i: usize) -> u16
     ensures value { result ≡ class_at leaves.now i }
     ensures inside { result ≢ 0 → i < length leaves.now }
 {
-    if i < leaves.len() { leaves[i].class } else { END }
+    if i < leaves.len() {
+        leaves[i].class
+    } else {
+        END
+    }
 }
 
 pub(crate) fn types_at(types: &[TypeEnds], i: u32) -> TypeEnds
@@ -56,7 +62,9 @@ fn dims_end(leaves: &[Leaf], types: &[TypeEnds], from: u32, at: u32) -> u32
     requires order { from ≤ at }
     ensures { LongestType (class_at leaves.now) dims at result }
 {
-    if class_at(leaves, at as usize) == BRACKET_OPEN && class_at(leaves, at as usize + 1) == BRACKET_CLOSE {
+    if class_at(leaves, at as usize) == BRACKET_OPEN
+        && class_at(leaves, at as usize + 1) == BRACKET_CLOSE
+    {
         types_at(types, at + 2).dims
     } else {
         at
@@ -104,7 +112,7 @@ fn named_end(leaves: &[Leaf], types: &[TypeEnds], from: u32, at: u32) -> u32
     }
 }
 
-// Behind types with_leaf by `&`.
+// Behind types that `&` joins.
 fn bounds_end(leaves: &[Leaf], types: &[TypeEnds], from: u32, at: u32) -> Option<u32>
     requires few { length leaves.now < 2 ^ 31 }
     requires known { KnowsBehind (class_at leaves.now) from types.now }
@@ -178,6 +186,7 @@ fn any_end(leaves: &[Leaf], types: &[TypeEnds], from: u32, at: u32, second: u16)
     Some(at + 1)
 }
 
+// Behind `?` and its bound.
 fn any_bound_end(leaves: &[Leaf], types: &[TypeEnds], from: u32, at: u32) -> Option<u32>
     requires few { length leaves.now < 2 ^ 31 }
     requires known { KnowsBehind (class_at leaves.now) from types.now }

@@ -7,7 +7,6 @@ use Rattle.java_lex.specs.KnownBrackets.{OneBalanced, NoBalanced, ToldBalanced, 
 use Rattle.java_lex.proofs.TypeSteps.{none_there}
 use Rattle.java_lex.proofs.BracketSteps.{level_here, level_next, level_none, level_behind, no_group, wrong_group, goes_next, goes_behind, no_bracket, no_stop, told_level, told_leads, levels_end}
 use Rattle.java_lex.proofs.brackets.leads.Goals as goal
-
 use Rattle.java_lex.proofs.BracketSteps.{no_open}
 
 pub returns-in-59 : goal.returns-in-59

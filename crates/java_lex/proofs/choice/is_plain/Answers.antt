@@ -14,5 +14,5 @@ returns-then-at-end c =
 pub names-preserved : goal.names-preserved
 names-preserved c =
     let step : IsPlain (class_at c.args.leaves.now) c.names.at c.args.end ↔ IsPlain (class_at c.args.leaves.now) (c.names.at + 2) c.args.end =
-            plain_next (class_at c.args.leaves.now) c.names.at c.args.end (omega arith) (omega arith) (omega arith) in
+    plain_next (class_at c.args.leaves.now) c.names.at c.args.end (omega arith) (omega arith) (omega arith) in
     (λ s. step.0 (c.names.invariant.0 s), λ s. c.names.invariant.1 (step.1 s))

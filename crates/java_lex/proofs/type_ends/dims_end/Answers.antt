@@ -14,5 +14,6 @@ returns-then-class_at-eq-BRACKET_CLOSE c =
 pub returns-else-class_at-eq-BRACKET_OPEN : goal.returns-else-class_at-eq-BRACKET_OPEN
 returns-else-class_at-eq-BRACKET_OPEN c =
     elim c.else-class_at-eq-BRACKET_OPEN.branch [
-      else-class_at-eq-BRACKET_OPEN-via-then-class_at-eq-BRACKET_OPEN+else-class_at-eq-BRACKET_CLOSE w ↦ dims_off (class_at c.args.leaves.now) c.args.at (λ h g. omega arith)
-    | else-class_at-eq-BRACKET_OPEN-via-else-class_at-eq-BRACKET_OPEN w ↦ dims_off (class_at c.args.leaves.now) c.args.at (λ h g. omega arith) ]
+      | else-class_at-eq-BRACKET_OPEN-via-then-class_at-eq-BRACKET_OPEN+else-class_at-eq-BRACKET_CLOSE w ↦ dims_off (class_at c.args.leaves.now) c.args.at (λ h g. omega arith)
+      | else-class_at-eq-BRACKET_OPEN-via-else-class_at-eq-BRACKET_OPEN w ↦ dims_off (class_at c.args.leaves.now) c.args.at (λ h g. omega arith)
+    ]

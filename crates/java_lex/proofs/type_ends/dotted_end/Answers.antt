@@ -13,5 +13,6 @@ returns-then-class_at-eq-ID c =
 pub returns-else-class_at-eq-DOT : goal.returns-else-class_at-eq-DOT
 returns-else-class_at-eq-DOT c =
     elim c.else-class_at-eq-DOT.branch [
-      else-class_at-eq-DOT-via-then-class_at-eq-DOT+else-class_at-eq-ID w ↦ dotted_off (class_at c.args.leaves.now) c.args.at _ (λ h g. omega arith) c.dims_end.ensures
-    | else-class_at-eq-DOT-via-else-class_at-eq-DOT w ↦ dotted_off (class_at c.args.leaves.now) c.args.at _ (λ h g. omega arith) c.dims_end.ensures ]
+      | else-class_at-eq-DOT-via-then-class_at-eq-DOT+else-class_at-eq-ID w ↦ dotted_off (class_at c.args.leaves.now) c.args.at _ (λ h g. omega arith) c.dims_end.ensures
+      | else-class_at-eq-DOT-via-else-class_at-eq-DOT w ↦ dotted_off (class_at c.args.leaves.now) c.args.at _ (λ h g. omega arith) c.dims_end.ensures
+    ]
