@@ -1,13 +1,12 @@
 -- Brackets from a leaf on, by those behind it.
 use Rattle.std.proofs.Common.{◌≡◌, ◌≢◌, ℕ, zero, suc, ◌+◌, ◌<◌, ◌≤◌, ◌⊎◌, Bool, true, false, List, [], ◌∷◌, length, inl, inr, refl, sym, ◌∙◌, ap, subst, arith}
-use Rattle.std.specs.Prelude.{Option, Some, None, slice_index_or, ◌==◌, ◌||◌, ◌↔◌, IsTrue}
+use Rattle.std.specs.Prelude.{Option, Some, None, slice_index_or, ◌↔◌, IsTrue}
 use Rattle.std.proofs.lemmas.Bool.Decides.{nat_tests}
 use Rattle.java_lex.specs.declared.class.TheConstants.{BRACKET_OPEN, BRACKET_CLOSE, PAREN_OPEN, PAREN_CLOSE, SEMICOLON, ASSIGN, BRACE_OPEN, BRACE_CLOSE, GREATER, GREATER_EQUAL}
 use Rattle.rw_base.specs.declared.tree.Leaf.{Leaf}
 use Rattle.java_lex.specs.declared.brackets.Brackets.{Brackets}
 use Rattle.java_lex.specs.Marks.{among, AreBrackets, IsBalanced, balanced, one-more, one-group, IsGroup, EndsAsDeclaration, stops, over, past, ParenClosesAt, closes, closes-later, closes-behind, Adjoins, EndsInSet, set, next}
 use Rattle.java_lex.specs.Segments.{class_at, is_tight}
-use Rattle.rw_base.specs.Arena.{no_leaf}
 use Rattle.java_lex.specs.KnownBrackets.{OneBalanced, NoBalanced, ToldBalanced, NoDeclaration, ToldWhether, KnowsBrackets, KnowsBracketsBehind, KnowsSet, brackets_at, no_brackets, OneClose, NoClose, ToldClose}
 use Rattle.java_lex.proofs.TypeSteps.{none_there}
 

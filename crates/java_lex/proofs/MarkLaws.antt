@@ -1,11 +1,10 @@
 -- Laws of the marks of a list of leaves.
-use Rattle.std.proofs.Common.{◌≡◌, ℕ, zero, suc, ◌+◌, ◌-◌, ◌<◌, ◌≤◌, Bool, true, false, List, [], ◌∷◌, ◌++◌, length, refl, sym, ◌∙◌, ap, subst, arith, append_assoc, inl, inr}
-use Rattle.std.specs.Prelude.{◌≢◌, ◌⊎◌, Option, nat_eq, slice_index_or, if◌then◌else◌}
+use Rattle.std.proofs.Common.{◌≡◌, ℕ, zero, suc, ◌+◌, ◌-◌, ◌<◌, Bool, true, false, List, [], ◌∷◌, ◌++◌, length, refl, sym, ◌∙◌, ap, subst, arith, append_assoc, inl, inr}
+use Rattle.std.specs.Prelude.{Option, nat_eq, slice_index_or, if◌then◌else◌}
 use Rattle.std.proofs.lemmas.Bool.Decides.{nat_tests}
 use Rattle.rw_base.specs.declared.tree.Leaf.{Leaf}
 use Rattle.rw_base.specs.declared.leaves.Bad.{Bad}
 use Rattle.rw_base.specs.Arena.{no_leaf, leaf_at, Tile, end_from}
-use Rattle.rw_base.specs.Cut.{AreCutLeaves, ends_at}
 use Rattle.java_lex.specs.declared.class.TheConstants.{END}
 use Rattle.java_lex.specs.Tiles.{AreTiles}
 use Rattle.java_lex.specs.Laws.{offset_leaf, offset_leaves}

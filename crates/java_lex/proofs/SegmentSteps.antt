@@ -1,17 +1,15 @@
 -- Segments, and marks segment by segment.
 use Rattle.std.proofs.Common.{max, ◌≡◌, ℕ, zero, suc, ◌+◌, ◌-◌, ◌<◌, ◌≤◌, Bool, true, false, List, [], ◌∷◌, ◌++◌, length, take, drop, refl, sym, ◌∙◌, ap, subst, arith, append_assoc, inl, inr}
-use Rattle.std.specs.Prelude.{slice_index_or, slice_index, if◌then◌else◌, IsTrue, nat_eq, ◌↔◌}
+use Rattle.std.specs.Prelude.{slice_index_or, if◌then◌else◌, IsTrue, nat_eq, ◌↔◌}
 use Rattle.std.proofs.Common.{◌≢◌, ◌⊎◌}
 use Rattle.std.proofs.lemmas.Bool.Decides.{nat_tests}
 use Rattle.std.proofs.lemmas.Slice.{take-put_mid, drop-put_mid}
 use borrow.Rule.Slice.PartMut.{put_mid, mid_of, same_len_mid}
-use Rattle.std.proofs.lemmas.List.{drop_more, take_rest, length-take-le, length-drop}
+use Rattle.std.proofs.lemmas.List.{take_rest, length-take-le, length-drop}
 use Rattle.rw_base.specs.declared.tree.Leaf.{Leaf}
-use Rattle.java_lex.specs.declared.class.TheConstants.{ID, DOT, AT, GREATER, PRIM, PAREN_OPEN, LAMBDA, LABEL, TREF, DECL, SHGT, SETGT}
+use Rattle.java_lex.specs.declared.class.TheConstants.{ID, DOT, GREATER}
 use Rattle.java_lex.specs.KnownSegments.{longest_of}
-use Rattle.java_lex.specs.Types.{Spans, IsTypeAt, typed}
-use Rattle.java_lex.specs.KnownTypes.{LongestType}
-use Rattle.java_lex.specs.Marks.{IsMark, IsShift, EndsInSet, Adjoins, set, next, IsPlain, lone, further, IsLambda, IsLabel, IsTref, IsDecl}
+use Rattle.java_lex.specs.Marks.{IsMark, EndsInSet, Adjoins, set, next, IsPlain, lone, further}
 use Rattle.java_lex.specs.Segments.{AreMarked, segments, with_leaf, separates, IsSegmentMarked, AreSegmentsMarked, ends_segment, class_at, is_tight}
 use Rattle.rw_base.specs.Arena.{no_leaf}
 

@@ -1,14 +1,14 @@
 -- What is told of a leaf is right where what is told of those behind it is.
-use Rattle.std.proofs.Common.{◌≡◌, ◌≢◌, ℕ, zero, suc, ◌+◌, ◌<◌, ◌≤◌, ◌⊎◌, List, [], ◌∷◌, length, inl, inr, refl, sym, ◌∙◌, ap, subst, arith}
+use Rattle.std.proofs.Common.{◌≡◌, ◌≢◌, ℕ, zero, suc, ◌+◌, ◌<◌, ◌≤◌, ◌⊎◌, List, [], ◌∷◌, length, inl, inr, refl, sym, ap, subst, arith}
 use Rattle.std.specs.Prelude.{Option, Some, None, slice_index_or}
-use Rattle.java_lex.specs.declared.class.TheConstants.{ID, PRIM, LESS, GREATER, COMMA, DOT, BRACKET_OPEN, BRACKET_CLOSE, QUESTION, EXTENDS, SUPER, AND}
+use Rattle.java_lex.specs.declared.class.TheConstants.{ID, LESS, GREATER, COMMA, QUESTION, EXTENDS, SUPER}
 use Rattle.rw_base.specs.declared.tree.Leaf.{Leaf}
 use Rattle.java_lex.specs.declared.type_ends.TypeEnds.{TypeEnds}
 use Rattle.java_lex.specs.Segments.{class_at}
 use Rattle.rw_base.specs.Arena.{no_leaf}
-use Rattle.java_lex.specs.Types.{TypePart, Spans, dims, dotted, named, typed, bounds, argument, listed, closed, arguments}
-use Rattle.java_lex.specs.KnownTypes.{LongestType, LongestArgument, One, Nothing, ToldType, ToldArgument, ToldOne, Knows, KnowsBehind, types_at, no_types}
-use Rattle.java_lex.proofs.TypeLaws.{rises, dims_on, dims_off, dotted_on, dotted_off, named_on, named_off, typed_prim, typed_name, typed_none, bounds_on, bounds_off, bounds_none, argument_any_on, argument_any_off, argument_bounded, argument_type, argument_none, closed_end, closed_more, closed_none, listed_on, listed_off, listed_none, arguments_empty, arguments_on, arguments_none}
+use Rattle.java_lex.specs.Types.{dims, named, typed, bounds, argument, listed, closed, arguments}
+use Rattle.java_lex.specs.KnownTypes.{LongestType, LongestArgument, Nothing, ToldType, ToldArgument, ToldOne, Knows, KnowsBehind, types_at, no_types}
+use Rattle.java_lex.proofs.TypeLaws.{dims_off, dotted_off, named_off, typed_none, bounds_none, argument_type, argument_none, closed_more, closed_none, listed_on, listed_off, listed_none, arguments_on, arguments_none}
 
 module _ (c : ℕ → ℕ) (from : ℕ) (types : List TypeEnds) (known : KnowsBehind c from types) where
   pub told_dims : (k : ℕ) (l : TypeEnds) → from < k → l ≡ types_at types k → LongestType c dims k l.dims

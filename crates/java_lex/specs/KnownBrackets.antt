@@ -1,5 +1,5 @@
 -- What the code knows of brackets behind a leaf.
-use Rattle.std.specs.Prelude.{◌≡◌, ◌↔◌, IsTrue, ℕ, ◌<◌, ◌≤◌, Bool, true, false, Option, Some, None, List}
+use Rattle.std.specs.Prelude.{◌≡◌, ◌↔◌, IsTrue, ℕ, ◌<◌, Bool, true, false, Option, Some, None, List}
 use Rattle.std.specs.Prelude.{slice_index_or}
 use Rattle.java_lex.specs.declared.brackets.Brackets.{Brackets}
 use Rattle.java_lex.specs.Marks.{IsBalanced, EndsAsDeclaration, ParenClosesAt, EndsInSet}

@@ -1,5 +1,5 @@
 -- What the code knows of the forms that begin at a leaf.
-use Rattle.std.specs.Prelude.{◌≡◌, ◌≢◌, ℕ, ◌+◌, ◌<◌, ◌≤◌, ◌⊎◌, Option, Some, None, List, slice_index_or}
+use Rattle.std.specs.Prelude.{◌≡◌, ◌≢◌, ℕ, ◌<◌, ◌⊎◌, Option, Some, None, List, slice_index_or}
 use Rattle.java_lex.specs.declared.class.TheConstants.{GREATER, COMMA, AND}
 use Rattle.java_lex.specs.declared.type_ends.TypeEnds.{TypeEnds}
 use Rattle.java_lex.specs.Types.{TypePart, Spans, dims, named, arguments, listed, bounds}

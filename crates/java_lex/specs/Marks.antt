@@ -1,8 +1,8 @@
 -- The marks of Java's leaves: what a leaf is beyond its class, by the leaves around it. They go by segments: a segment
 -- ends with `;`, `{` or `}`, or with the leaves. Here c gives the class of each leaf of one segment by its number.
 use Rattle.std.specs.Prelude.{◌≡◌, ◌≢◌, ℕ, zero, suc, ◌+◌, ◌-◌, ◌<◌, ◌≤◌, ◌⊎◌, Bool, true, false, ◌||◌, ◌==◌, List, []}
-use Rattle.std.specs.Prelude.{◌∷◌, ◌++◌, length, slice_index_or, if◌then◌else◌}
-use Rattle.java_lex.specs.declared.class.TheConstants.{ID, PRIM, LESS, GREATER, GREATER_EQUAL, COMMA, DOT, BRACKET_OPEN}
+use Rattle.std.specs.Prelude.{◌∷◌}
+use Rattle.java_lex.specs.declared.class.TheConstants.{ID, PRIM, GREATER, GREATER_EQUAL, COMMA, DOT, BRACKET_OPEN}
 use Rattle.java_lex.specs.declared.class.TheConstants.{BRACKET_CLOSE, PAREN_OPEN, PAREN_CLOSE, BRACE_OPEN, BRACE_CLOSE}
 use Rattle.java_lex.specs.declared.class.TheConstants.{SEMICOLON, ASSIGN, COLON, COLON_COLON, ARROW, AT, NOT, TILDE}
 use Rattle.java_lex.specs.declared.class.TheConstants.{CLASS, INTERFACE, ELSE, DO, FOR, WHILE, SWITCH, IF, TRY, CATCH}

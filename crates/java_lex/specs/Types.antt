@@ -1,5 +1,5 @@
 -- Types and type arguments among leaves, by the classes of the leaves.
-use Rattle.std.specs.Prelude.{◌≡◌, ℕ, ◌+◌, ◌<◌, ◌≤◌, ◌⊎◌}
+use Rattle.std.specs.Prelude.{◌≡◌, ℕ, ◌+◌, ◌≤◌, ◌⊎◌}
 use Rattle.java_lex.specs.declared.class.TheConstants.{ID, PRIM, LESS, GREATER, COMMA, DOT, BRACKET_OPEN, BRACKET_CLOSE}
 use Rattle.java_lex.specs.declared.class.TheConstants.{QUESTION, EXTENDS, SUPER, AND}
 

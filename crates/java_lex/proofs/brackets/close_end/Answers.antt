@@ -1,9 +1,7 @@
-use Rattle.std.proofs.Common.{◌≡◌, ◌≢◌, ℕ, ◌+◌, ◌<◌, ◌≤◌, length, sym, subst, arith}
-use Rattle.std.specs.Prelude.{Option, Some, None}
+use Rattle.std.proofs.Common.{◌+◌, subst, arith}
 use Rattle.java_lex.specs.Segments.{class_at}
-use Rattle.java_lex.specs.declared.class.TheConstants.{PAREN_OPEN, PAREN_CLOSE}
-use Rattle.java_lex.specs.KnownBrackets.{OneClose, NoClose, ToldClose, brackets_at}
-use Rattle.java_lex.proofs.BracketSteps.{close_here, close_next, close_behind, close_none, close_rises, closes_end, closed_inside, told_close}
+use Rattle.java_lex.specs.KnownBrackets.{OneClose, ToldClose}
+use Rattle.java_lex.proofs.BracketSteps.{close_here, close_next, close_behind, closes_end, closed_inside, told_close}
 use Rattle.java_lex.proofs.brackets.close_end.Goals as goal
 
 pub returns-in-54 : goal.returns-in-54

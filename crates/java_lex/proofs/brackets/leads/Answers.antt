@@ -1,11 +1,7 @@
-use Rattle.std.proofs.Common.{◌≡◌, ◌≢◌, ℕ, ◌+◌, ◌<◌, ◌≤◌, ◌⊎◌, [], ◌∷◌, false, length, inl, inr, sym, subst, arith}
-use Rattle.std.specs.Prelude.{Option, Some, None, Bool}
-use Rattle.java_lex.specs.Marks.{among, AreBrackets, IsGroup, stops}
+use Rattle.std.proofs.Common.{◌+◌, inl, inr, arith}
+use Rattle.java_lex.specs.Marks.{stops}
 use Rattle.java_lex.specs.Segments.{class_at}
-use Rattle.java_lex.specs.declared.class.TheConstants.{BRACKET_OPEN, BRACKET_CLOSE, PAREN_OPEN, PAREN_CLOSE, SEMICOLON, ASSIGN, BRACE_OPEN, BRACE_CLOSE}
-use Rattle.java_lex.specs.KnownBrackets.{OneBalanced, NoBalanced, ToldBalanced, ToldWhether, KnowsBrackets, brackets_at, no_brackets}
-use Rattle.java_lex.proofs.TypeSteps.{none_there}
-use Rattle.java_lex.proofs.BracketSteps.{level_here, level_next, level_none, level_behind, no_group, wrong_group, goes_next, goes_behind, no_bracket, no_stop, told_level, told_leads, levels_end}
+use Rattle.java_lex.proofs.BracketSteps.{goes_next, no_stop, told_leads}
 use Rattle.java_lex.proofs.brackets.leads.Goals as goal
 use Rattle.java_lex.proofs.BracketSteps.{no_open}
 

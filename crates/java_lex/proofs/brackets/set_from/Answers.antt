@@ -1,7 +1,5 @@
-use Rattle.std.proofs.Common.{◌≡◌, ◌+◌, sym, subst, arith}
-use Rattle.std.specs.Prelude.{◌↔◌, IsTrue}
+use Rattle.std.proofs.Common.{◌+◌, sym, subst, arith}
 use Rattle.java_lex.specs.declared.brackets.Brackets.{Brackets}
-use Rattle.java_lex.specs.Marks.{EndsInSet}
 use Rattle.java_lex.specs.Segments.{class_at, is_tight}
 use Rattle.java_lex.specs.KnownBrackets.{KnowsSet}
 use Rattle.java_lex.proofs.BracketSteps.{set_here, set_behind}

@@ -1,5 +1,5 @@
-use Rattle.std.proofs.Common.{◌≡◌, ◌≢◌, ◌+◌, ◌↔◌, refl, sym, arith}
-use Rattle.java_lex.specs.declared.class.TheConstants.{ID, DOT}
+use Rattle.std.proofs.Common.{◌≡◌, ◌+◌, ◌↔◌, refl, arith}
+use Rattle.java_lex.specs.declared.class.TheConstants.{ID}
 use Rattle.java_lex.specs.Marks.{IsPlain, lone}
 use Rattle.java_lex.specs.Segments.{class_at}
 use Rattle.java_lex.proofs.SegmentSteps.{plain_next}

@@ -1,4 +1,4 @@
-use Rattle.std.proofs.Common.{◌≡◌, ℕ, ◌-◌, ◌+◌, ◌↔◌, length}
+use Rattle.std.proofs.Common.{◌-◌, ◌+◌, ◌↔◌, length}
 use Rattle.java_lex.specs.Marks.{IsPlain}
 use Rattle.java_lex.specs.Segments.{class_at}
 use Rattle.java_lex.proofs.choice.is_plain.Given as goal

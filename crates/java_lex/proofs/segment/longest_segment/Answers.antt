@@ -1,5 +1,4 @@
-use Rattle.std.proofs.Common.{◌+◌, arith}
-use Rattle.std.proofs.lemmas.List.{length-drop, length-take-le}
+use Rattle.std.proofs.Common.{arith}
 use Rattle.java_lex.specs.Segments.{segments}
 use Rattle.java_lex.specs.KnownSegments.{longest_of}
 use Rattle.java_lex.proofs.SegmentSteps.{longest_start, longest_more, longest_end, rest_inside}

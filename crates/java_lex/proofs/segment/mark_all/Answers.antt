@@ -1,4 +1,4 @@
-use Rattle.std.proofs.Common.{◌≡◌, ◌+◌, ◌-◌, ◌≤◌, length, arith, refl}
+use Rattle.std.proofs.Common.{◌+◌, ◌-◌, length, arith, refl}
 use Rattle.java_lex.specs.Segments.{AreMarked}
 use Rattle.java_lex.proofs.SegmentSteps.{further_on, all_done, room_rest}
 use Rattle.java_lex.proofs.segment.mark_all.Goals as goal

@@ -1,4 +1,3 @@
-use Rattle.std.specs.Prelude.{slice_index}
 use Rattle.java_lex.proofs.segment.mark_segment.Goals as goal
 
 pub returns : goal.returns

@@ -1,4 +1,4 @@
-use Rattle.std.proofs.Common.{◌≡◌, ℕ, ◌<◌, ◌≤◌, length}
+use Rattle.std.proofs.Common.{◌≡◌, ℕ, ◌<◌, ◌≤◌}
 use Rattle.std.specs.Prelude.{slice_index_or, slice_index}
 use Rattle.java_lex.specs.Segments.{with_class}
 use Rattle.rw_base.specs.Arena.{no_leaf}

@@ -1,4 +1,4 @@
-use Rattle.std.proofs.Common.{◌+◌, ◌<◌, ◌≡◌, ◌∙◌, sym, add-one, arith, length}
+use Rattle.std.proofs.Common.{◌∙◌, sym, add-one, arith}
 use Rattle.java_lex.proofs.SegmentSteps.{segment_at, segment_whole}
 use Rattle.java_lex.proofs.segment.segment_size.Goals as goal
 

@@ -1,4 +1,4 @@
-use Rattle.std.proofs.Common.{◌≡◌, ℕ, ◌<◌, false, get_or}
+use Rattle.std.proofs.Common.{◌≡◌, ℕ, ◌<◌, false}
 use Rattle.std.specs.Prelude.{slice_index_or}
 use Rattle.java_lex.specs.Segments.{separates}
 use Rattle.rw_base.specs.Arena.{no_leaf}

@@ -1,6 +1,5 @@
-use Rattle.std.proofs.Common.{◌≡◌, ◌+◌, arith}
+use Rattle.std.proofs.Common.{◌+◌, arith}
 use Rattle.java_lex.specs.Segments.{class_at}
-use Rattle.java_lex.specs.declared.class.TheConstants.{BRACKET_OPEN, BRACKET_CLOSE}
 use Rattle.java_lex.proofs.TypeLaws.{dims_on, dims_off}
 use Rattle.java_lex.proofs.TypeSteps.{told_dims}
 use Rattle.java_lex.proofs.type_ends.dims_end.Goals as goal

@@ -1,4 +1,4 @@
-use Rattle.std.proofs.Common.{◌≡◌, ◌+◌, arith}
+use Rattle.std.proofs.Common.{◌+◌, arith}
 use Rattle.java_lex.specs.Segments.{class_at}
 use Rattle.java_lex.proofs.TypeLaws.{dotted_on, dotted_off}
 use Rattle.java_lex.proofs.TypeSteps.{told_named}

@@ -1,11 +1,7 @@
-use Rattle.std.proofs.Common.{◌≡◌, ◌≢◌, ◌+◌, ◌≤◌, ◌⊎◌, inl, inr, sym, subst, arith}
-use Rattle.std.specs.Prelude.{Option, Some, None}
+use Rattle.std.proofs.Common.{arith}
 use Rattle.java_lex.specs.Segments.{class_at}
-use Rattle.java_lex.specs.declared.class.TheConstants.{ID, PRIM, LESS, GREATER, COMMA, DOT, BRACKET_OPEN, BRACKET_CLOSE, QUESTION, EXTENDS, SUPER, AND}
-use Rattle.java_lex.specs.Types.{dims, dotted, named, typed, bounds, argument, listed, closed, arguments}
-use Rattle.java_lex.specs.KnownTypes.{LongestType, LongestArgument, One, Nothing, ToldType, ToldArgument, ToldOne, Knows, KnowsBehind, types_at, no_types}
-use Rattle.java_lex.proofs.TypeLaws.{rises, named_on, named_off, bounds_on, bounds_off, argument_any_on, argument_any_off, argument_bounded, closed_end, closed_none, arguments_empty}
-use Rattle.java_lex.proofs.TypeSteps.{told_dims, told_named, told_listed, told_bounds, closed_told, arguments_told, listed_told, argument_told, nothing_there, none_of}
+use Rattle.java_lex.specs.Types.{arguments}
+use Rattle.java_lex.proofs.TypeLaws.{rises, named_on, named_off}
 use Rattle.java_lex.proofs.type_ends.named_end.Goals as goal
 
 pub dotted_end-requires-clause-order : goal.dotted_end-requires-clause-order

@@ -1,6 +1,6 @@
-use Rattle.std.proofs.Common.{◌≡◌, ◌+◌, arith}
+use Rattle.std.proofs.Common.{◌+◌, arith}
 use Rattle.java_lex.specs.Segments.{class_at}
-use Rattle.java_lex.proofs.TypeLaws.{typed_prim, typed_name, typed_none}
+use Rattle.java_lex.proofs.TypeLaws.{typed_prim, typed_name}
 use Rattle.java_lex.proofs.TypeSteps.{told_dims, told_named}
 use Rattle.java_lex.proofs.type_ends.typed_end.Goals as goal
 
