@@ -16,3 +16,8 @@ pub mod Joining
 pub mod Identifying
 pub mod Numbering
 pub mod Existing
+pub mod TypeLaws
+pub mod TypeSteps
+pub mod BracketSteps
+pub mod SegmentSteps
+pub mod MarkLaws

@@ -10,3 +10,10 @@ pub mod Scanning
 pub mod Tiles
 pub mod Laws
 pub mod Classes
+pub mod Types
+pub mod Marks
+pub mod Segments
+pub mod KnownSegments
+pub mod KnownTypes
+pub mod KnownBrackets
+pub mod KnownReach

@@ -1,11 +1,12 @@
 // Laws of Java leaves.
-ghost use Rattle.std.specs.Prelude.{◌≡◌, ◌≢◌, ℕ, ◌+◌, ◌-◌, Bool, List, ◌∷◌, ◌++◌, take, drop, Option, AllPairs};
+ghost use Rattle.std.specs.Prelude.{◌≡◌, ◌≢◌, ℕ, ◌+◌, ◌-◌, Bool, true, List, ◌∷◌, ◌++◌, take, drop, Option, AllPairs};
 ghost use Rattle.rw_base.specs.declared.tree.Leaf.{Leaf};
 ghost use Rattle.rw_base.specs.declared.leaves.Bad.{Bad};
 ghost use Rattle.java_lex.specs.Leaves.{AreJavaLeaves, Cuts};
 ghost use Rattle.java_lex.specs.Tiles.{AreTiles};
 ghost use Rattle.java_lex.specs.Laws.{AreBytes, IsAloneAt, LeavesBeginWith, offset_leaves, offset_bad};
 ghost use Rattle.java_lex.specs.Classes.{classes};
+ghost use Rattle.java_lex.specs.Segments.{AreMarked, AreSameButClasses, ends_segment};
 
 /// The classes are distinct numbers.
 pub fn classes_differ()
@@ -60,4 +61,39 @@ pub fn cut_together()
         (bad worse : Option Bad) → AreBytes s → AreBytes t
         → Cuts broken from at s (front ++ l ∷ more) bad → IsAloneAt at s l → Cuts second l.to l.to t leaves worse
         → Cuts second from at (take (l.to - at) s ++ t) (front ++ l ∷ leaves) worse }
+{}
+
+/// A list of leaves has one list of marks.
+pub fn marks_are_one()
+    ensures { (leaves marked others : List Leaf) → AreMarked leaves marked → AreMarked leaves others → marked ≡ others }
+{}
+
+/// Marks change the classes of leaves alone.
+pub fn marks_keep_leaves()
+    ensures { (leaves marked : List Leaf) → AreMarked leaves marked → AreSameButClasses leaves marked }
+{}
+
+/// The marked leaves of a file lie as its leaves do.
+pub fn marks_keep_tiles()
+    ensures { (bytes : List ℕ) (leaves marked : List Leaf) (bad : Option Bad)
+        → AreTiles bytes leaves bad → AreMarked leaves marked → AreTiles bytes marked bad }
+{}
+
+/// Leaves up to one that is `;`, `{` or `}` and leaves behind it are together marked as each of them.
+pub fn marks_join()
+    ensures { (xs ys ms ns : List Leaf) → ends_segment xs ≡ true → AreMarked xs ms → AreMarked ys ns
+        → AreMarked (xs ++ ys) (ms ++ ns) }
+{}
+
+/// No mark depends on what stands behind the next `;`, `{` or `}`, nor on what stands before the last: marked leaves
+/// that are cut behind such a leaf are two parts, marked as each of them alone.
+pub fn marks_part()
+    ensures { (xs ys marked : List Leaf) → ends_segment xs ≡ true → AreMarked (xs ++ ys) marked
+        → (ms ns : List Leaf) × (marked ≡ ms ++ ns) × AreMarked xs ms × AreMarked ys ns }
+{}
+
+/// Marks are the same wherever the leaves stand.
+pub fn marks_anywhere()
+    ensures { (by : ℕ) (leaves marked : List Leaf) → AreMarked leaves marked
+        → AreMarked (offset_leaves by leaves) (offset_leaves by marked) }
 {}
