@@ -10,7 +10,8 @@ use Rattle.rw_base.specs.declared.place.Cause.{Cause}
 use Rattle.rw_base.specs.declared.leaves.Bad.{Bad}
 use Rattle.java_lex.specs.declared.class.TheConstants.{END}
 use Rattle.java_lex.specs.Blanks.{is_white}
-use Rattle.java_lex.specs.Leaves.{Cuts, passed, leaf, ended, stopped, IsBlank, white, IsNextLeaf, IsBad, end_leaf, AreJavaLeaves, utf8_front, is_broken, mark_size}
+use Rattle.rw_base.specs.Utf8.{utf8_front, is_broken, mark_size}
+use Rattle.java_lex.specs.Leaves.{Cuts, passed, leaf, ended, stopped, IsBlank, white, IsNextLeaf, IsBad, end_leaf, AreJavaLeaves}
 use Rattle.java_lex.specs.Scanning.{IsWhite}
 use Rattle.java_lex.proofs.Following.{either-true}
 

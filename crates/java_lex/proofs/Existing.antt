@@ -16,7 +16,8 @@ use Rattle.java_lex.specs.Kinds.{Fits, is_literal}
 use Rattle.java_lex.specs.Words.{begins_word, continues_word, word_class}
 use Rattle.java_lex.specs.Escapes.{IsRefusedAt, IsFirstRefused, NoneRefused}
 use Rattle.java_lex.specs.Blanks.{is_white, is_line_end, begins_line_comment, begins_block_comment, ClosesAt, IsComment, line, block}
-use Rattle.java_lex.specs.Leaves.{Cuts, passed, leaf, ended, stopped, IsBlank, white, comment, IsNextLeaf, IsLeafPlace, IsLongest, BeginsNone, IsBad, broken_end, in_comment, open_comment, in_literal, open_literal, no_leaf, IsBadOpen, never_closed, escaped, cut_off, end_leaf, AreJavaLeaves, utf8_front, is_broken, mark_size}
+use Rattle.rw_base.specs.Utf8.{utf8_front, is_broken, mark_size}
+use Rattle.java_lex.specs.Leaves.{Cuts, passed, leaf, ended, stopped, IsBlank, white, comment, IsNextLeaf, IsLeafPlace, IsLongest, BeginsNone, IsBad, broken_end, in_comment, open_comment, in_literal, open_literal, no_leaf, IsBadOpen, never_closed, escaped, cut_off, end_leaf, AreJavaLeaves}
 use Rattle.java_lex.specs.Scanning.{IsFirstSize, IsWordSize, IsStart, IsEscape, escape_of, IsLongestOf, next_state, state_class}
 use Rattle.java_lex.specs.Laws.{AreBytes}
 use Rattle.java_lex.proofs.Following.{either-true}

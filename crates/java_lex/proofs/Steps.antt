@@ -14,7 +14,8 @@ use Rattle.java_lex.specs.Kinds.{IsLeaf, word, other, Fits, kinds, is_literal}
 use Rattle.java_lex.specs.Words.{IsWord}
 use Rattle.java_lex.specs.Escapes.{IsFirstRefused, NoneRefused}
 use Rattle.java_lex.specs.Blanks.{is_white, begins_line_comment, begins_block_comment, line, block, IsLineComment, IsBlockComment, IsOpenComment}
-use Rattle.java_lex.specs.Leaves.{Cuts, passed, leaf, ended, stopped, IsBlank, white, comment, IsLongest, IsLeafPlace, BeginsNone, CanGoOn, IsNextLeaf, IsBad, broken_end, in_comment, open_comment, in_literal, open_literal, no_leaf, IsBadOpen, never_closed, escaped, cut_off, end_leaf, AreJavaLeaves, utf8_front, is_broken, mark_size}
+use Rattle.rw_base.specs.Utf8.{utf8_front, is_broken, mark_size}
+use Rattle.java_lex.specs.Leaves.{Cuts, passed, leaf, ended, stopped, IsBlank, white, comment, IsLongest, IsLeafPlace, BeginsNone, CanGoOn, IsNextLeaf, IsBad, broken_end, in_comment, open_comment, in_literal, open_literal, no_leaf, IsBadOpen, never_closed, escaped, cut_off, end_leaf, AreJavaLeaves}
 use Rattle.std.specs.Str.Lossy.{utf8_valid_len}
 use Rattle.java_lex.specs.Scanning.{known, next_state}
 use Rattle.java_lex.specs.Laws.{AreBytes}

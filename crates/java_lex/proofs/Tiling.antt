@@ -13,7 +13,8 @@ use Rattle.rw_base.specs.declared.leaves.Bad.{Bad}
 use Rattle.java_lex.specs.Literals.{literal_refused, comment_refused}
 use Rattle.java_lex.specs.Kinds.{IsLeaf, word, other}
 use Rattle.java_lex.specs.Blanks.{IsComment, line, block, IsBlockComment}
-use Rattle.java_lex.specs.Leaves.{Cuts, passed, leaf, ended, stopped, IsBlank, white, comment, IsNextLeaf, IsBad, broken_end, in_comment, open_comment, in_literal, open_literal, no_leaf, IsBadOpen, never_closed, escaped, cut_off, AreJavaLeaves, utf8_front, is_broken, mark_size}
+use Rattle.rw_base.specs.Utf8.{utf8_front, is_broken, mark_size}
+use Rattle.java_lex.specs.Leaves.{Cuts, passed, leaf, ended, stopped, IsBlank, white, comment, IsNextLeaf, IsBad, broken_end, in_comment, open_comment, in_literal, open_literal, no_leaf, IsBadOpen, never_closed, escaped, cut_off, AreJavaLeaves}
 use Rattle.rw_base.specs.Cut.{ends_at}
 use Rattle.java_lex.specs.Tiles.{AreTiles}
 use Rattle.java_lex.proofs.Best.{start-empty}

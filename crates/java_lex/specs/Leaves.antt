@@ -1,8 +1,8 @@
 -- A text cut into leaves, up to the end or the first bad place. At each place white space and comments come first, and
 -- then the longest leaf of those that begin there.
-use Rattle.std.specs.Prelude.{◌≡◌, ℕ, ◌+◌, ◌<◌, ◌≤◌, ◌==◌, ◌&&◌, Bool, true, false, nat_lt, List, [], ◌∷◌, ◌++◌, length}
-use Rattle.std.specs.Prelude.{take, drop, slice_index, Option, Some, None, if◌then◌else◌}
-use Rattle.std.specs.Str.Lossy.{utf8_valid_len}
+use Rattle.std.specs.Prelude.{◌≡◌, ℕ, ◌+◌, ◌<◌, ◌≤◌, Bool, true, false, List, [], ◌∷◌, ◌++◌, length}
+use Rattle.std.specs.Prelude.{take, drop, slice_index, Option, Some, None}
+use Rattle.rw_base.specs.Utf8.{utf8_front, is_broken, mark_size}
 use Rattle.rw_base.specs.declared.tree.Leaf.{Leaf}
 use Rattle.rw_base.specs.declared.place.Cause.{Cause}
 use Rattle.rw_base.specs.declared.place.Cause.TheVariants.{NotUtf8, BadLeaf}
@@ -88,18 +88,6 @@ pub data Cuts (broken : Bool) : ℕ → ℕ → List ℕ → List Leaf → Optio
       → Cuts broken from at s (end_leaf from (at + n) ∷ []) (Some (record { byte = at + n; cause = cause }))
 
 -- ---- whole files
-
--- the longest front that is UTF-8
-abbrev pub utf8_front : List ℕ → List ℕ
-utf8_front bytes = take (utf8_valid_len bytes) bytes
-
--- bytes follow it that aren't
-abbrev pub is_broken : List ℕ → Bool
-is_broken bytes = nat_lt (utf8_valid_len bytes) (length bytes)
-
--- the bytes of the byte order mark that a text begins with
-abbrev pub mark_size : List ℕ → ℕ
-mark_size s = if (slice_index s 0 == 239) && (slice_index s 1 == 187) && (slice_index s 2 == 191) then 3 else 0
 
 -- These are the leaves of a file, up to its first bad place.
 unfoldable pub AreJavaLeaves : List ℕ → List Leaf → Option Bad → Type 0

@@ -1,6 +1,7 @@
 // Files cut into leaves.
 ghost use Rattle.std.specs.Prelude.{◌≡◌, ◌+◌, ◌≤◌, length, IfOk};
-ghost use Rattle.java_lex.specs.Leaves.{AreJavaLeaves, utf8_front, mark_size};
+ghost use Rattle.rw_base.specs.Utf8.{utf8_front, mark_size};
+ghost use Rattle.java_lex.specs.Leaves.{AreJavaLeaves};
 ghost use Rattle.java_lex.specs.Tiles.{AreTiles};
 
 use crate::blank::white_size;
