@@ -7,7 +7,7 @@ use crate::fault::{Done, Fault};
 use crate::grammar::{end_byte, read};
 use crate::java::leaves_of;
 use crate::large::repeated;
-use crate::places::place_at;
+use crate::places::{place_at, place_behind};
 use crate::showing::put_sum;
 use crate::words::Word;
 use rw_base::{Edit, NodeId, Spot, Tree, print, rearranged};
@@ -87,10 +87,12 @@ pub fn put_leaf_edits(alloc: Global, count: u32, out: &mut String) -> Done {
     put_edited(alloc, count, false, out)
 }
 
-/// Writes the place behind so many lines.
+/// Writes the place behind so many lines, and the same from the place halfway.
 pub fn put_place(alloc: Global, count: u32, out: &mut String) -> Done {
     let text = repeated(alloc, b"a\r\n", count)?;
     let place = place_at(&text, text.len())?;
+    write!(out, "{}:{}, ", place.line, place.column)?;
+    let place = place_behind(&text, text.len() / 2, text.len())?;
     write!(out, "{}:{}", place.line, place.column)?;
     Ok(())
 }

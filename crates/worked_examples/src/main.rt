@@ -96,6 +96,7 @@ fn put_text_answer(alloc: Global, heading: &str, case: &str, out: &mut String) -
         "renamed keys" => recipes::put_renamed(alloc, case, out)?,
         "texts" => base::put_text(alloc, case, out)?,
         "places" => places::put_places(alloc, case, out)?,
+        "places from others" => places::put_places_behind(alloc, case, out)?,
         "tables" => grammar::put_fault(alloc, case, out)?,
         "codes" => codes::put_spelled(alloc, case, out)?,
         "promotion" => types::put_promotions(alloc, case, out)?,
