@@ -1,11 +1,10 @@
 -- Heads over one list of parts, and the rows that they stand for.
-use Rattle.std.proofs.Common.{◌≡◌, ℕ, zero, suc, ◌+◌, ◌-◌, ◌<◌, ◌≤◌, List, [], ◌∷◌, ◌++◌, length, take, drop, slice_range, slice_index_or, refl, sym, ap, ◌∙◌, subst, arith}
-use Rattle.std.proofs.lemmas.List.{length-append, length-drop, take-append-le, drop-append-le}
+use Rattle.std.proofs.Common.{◌≡◌, ℕ, zero, suc, ◌+◌, ◌-◌, ◌<◌, ◌≤◌, List, [], ◌∷◌, ◌++◌, length, take, drop, slice_range, slice_index_or, refl, ap, ◌∙◌, arith}
+use Rattle.std.proofs.lemmas.List.{length-drop, take-append-le, drop-append-le}
 use Rattle.std.proofs.Math.Seq.{drop-append_seam, take-length}
 use Rattle.rw_base.specs.Heads.{rows_over, row_over, EndsRise, parts_start}
-use Rattle.rw_base.specs.Arena.{row_at, row_of}
+use Rattle.rw_base.specs.Arena.{row_at}
 use Rattle.rw_base.specs.declared.nodes.NodeHead.{NodeHead}
-use Rattle.rw_base.specs.declared.tree.NodeRow.{NodeRow}
 use Rattle.rw_base.specs.declared.tree.Part.{Part}
 
 pub count : (ps : List Part) (at : ℕ) (rs : List NodeHead) → length (rows_over ps at rs) ≡ length rs

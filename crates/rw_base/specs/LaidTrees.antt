@@ -9,7 +9,7 @@ use Rattle.rw_base.specs.declared.tree.Leaf.{Leaf}
 use Rattle.rw_base.specs.declared.tree.Part.{Part}
 use Rattle.rw_base.specs.declared.tree.Part.TheVariants as part
 use Rattle.rw_base.specs.declared.tree.NodeRow.{NodeRow}
-use Rattle.rw_base.specs.Arena.{Arena, IsTree, Tile, AreBelow, Runs, leaf_at, row_at, no_row, kind_of, first_of}
+use Rattle.rw_base.specs.Arena.{IsTree, Tile, AreBelow, Runs, leaf_at, row_at, no_row, kind_of, first_of}
 use Rattle.rw_base.specs.Arena.{past_of, parts_of, times_in, times, end_of}
 use Rattle.rw_base.specs.Trees.{none, leaf, node, Forest, Numbered, leaves_in, width, size, relabel, numbers}
 use Rattle.rw_base.specs.RowLaws.{value_at}

@@ -1,3 +1,4 @@
+pub mod formers
 pub mod Arena
 pub mod Heads
 pub mod KeptNodes

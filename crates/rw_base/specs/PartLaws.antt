@@ -10,8 +10,8 @@ use Rattle.rw_base.specs.declared.tree.Part.TheVariants as part
 use Rattle.rw_base.specs.declared.tree.NodeRow.{NodeRow}
 use Rattle.rw_base.specs.Arena.{Arena, IsTree, AreBelow, row_at, no_row, kind_of, parts_of}
 use Rattle.rw_base.specs.Trees.{none, leaf, node}
-use Rattle.rw_base.specs.Rows.{folded}
-use Rattle.rw_base.specs.RowLaws.{folded_front}
+use Rattle.rw_base.specs.Rows.{row_values}
+use Rattle.rw_base.specs.RowLaws.{row_values_front}
 use Rattle.rw_base.specs.Laid.{KindAndTrees, no_trees, trees_by, kind_and_trees, kids_of, forest_of}
 use Rattle.rw_base.specs.LaidTrees.{nodes_below, kind_and_trees_row}
 
@@ -20,23 +20,23 @@ use Rattle.rw_base.specs.LaidTrees.{nodes_below, kind_and_trees_row}
 -- The kind that is kept with a node's trees is the node's.
 kept_kind : (rows : List NodeRow) (n : ℕ) → (kind_and_trees rows n).0 ≡ kind_of rows n
 unfolding kind_and_trees row_at Rattle.rw_base.specs.Rows.value
-kept_kind rows n = ap (λ m. (get_or (folded no_trees (λ n r f. (r.kind, trees_by f r.parts)) [] rows) m no_trees).0)
+kept_kind rows n = ap (λ m. (get_or (row_values no_trees (λ n r f. (r.kind, trees_by f r.parts)) [] rows) m no_trees).0)
     (omega arith) ∙ kinds [] rows n
   where
     kinds : (vs : List KindAndTrees) (rows : List NodeRow) (n : ℕ)
-        → (get_or (folded no_trees (λ n r f. (r.kind, trees_by f r.parts)) vs rows) (length vs + n) no_trees).0 ≡
+        → (get_or (row_values no_trees (λ n r f. (r.kind, trees_by f r.parts)) vs rows) (length vs + n) no_trees).0 ≡
         (get_or rows n no_row).kind
     kinds vs [] n = ap (λ (x : KindAndTrees). x.0) (get_or_past vs (length vs + n) no_trees (omega arith))
     kinds vs (r ∷ rows) zero =
         let x : KindAndTrees = (r.kind, trees_by (λ m. get_or vs m no_trees) r.parts) in
-        let more = folded_front no_trees (λ n r f. (r.kind, trees_by f r.parts)) (vs ++ x ∷ []) rows in
+        let more = row_values_front no_trees (λ n r f. (r.kind, trees_by f r.parts)) (vs ++ x ∷ []) rows in
         ap (λ (g : List KindAndTrees). (get_or g (length vs + 0) no_trees).0) (more.1
         ∙ append_assoc vs (x ∷ []) more.0)
         ∙ ap (λ (y : KindAndTrees). y.0) (get_or_at vs x more.0 no_trees (length vs + 0) (omega arith))
     kinds vs (r ∷ rows) (suc n) =
         let x : KindAndTrees = (r.kind, trees_by (λ m. get_or vs m no_trees) r.parts) in
         let same : length vs + suc n ≡ length (vs ++ x ∷ []) + n = omega (arith, length-append vs (x ∷ [])) in
-        ap (λ m. (get_or (folded no_trees (λ n r f. (r.kind, trees_by f r.parts)) (vs ++ x ∷ []) rows) m no_trees).0)
+        ap (λ m. (get_or (row_values no_trees (λ n r f. (r.kind, trees_by f r.parts)) (vs ++ x ∷ []) rows) m no_trees).0)
         same ∙ kinds (vs ++ x ∷ []) rows n
 
 pub forest_nil : (rows : List NodeRow) → forest_of rows [] ≡ none

@@ -1,11 +1,11 @@
 -- Edits whose spots rise by some rank are edits of a tree.
-use Rattle.std.proofs.Common.{◌≡◌, ◌≢◌, ℕ, ◌+◌, ◌<◌, ◌≤◌, List, [], ◌∷◌, ap, arith}
+use Rattle.std.proofs.Common.{◌≡◌, ◌≢◌, ℕ, ◌+◌, ◌<◌, List, [], ◌∷◌, ap, arith}
 use Rattle.std.specs.Prelude.{All}
 use Rattle.std.proofs.lemmas.List.Elements.{All-nil, All-cons}
 use Rattle.rw_base.specs.declared.edit.Edit.{Edit}
 use Rattle.rw_base.specs.declared.edit.Spot.{Spot}
 use Rattle.rw_base.specs.Arena.{Arena}
-use Rattle.rw_base.specs.NewText.{IsSpot, IsItemOf, AreEdits, AreRanked}
+use Rattle.rw_base.specs.NewText.{AreEdits, AreRanked}
 
 module _ (t : Arena) (rank : Spot → ℕ) where
   later_differ : (s : Spot) (from : ℕ) (es : List Edit) → rank s < from → AreRanked t rank from es

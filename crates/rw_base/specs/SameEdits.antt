@@ -1,16 +1,15 @@
 -- The new text sees edits through what they put at each spot alone.
-use Rattle.std.proofs.Common.{◌≡◌, ℕ, List, [], ◌∷◌, ◌++◌, refl, sym, ap, ◌∙◌}
+use Rattle.std.proofs.Common.{◌≡◌, ℕ, List, [], ◌∷◌, ◌++◌, refl, ap, ◌∙◌}
 use Rattle.std.specs.Prelude.{Option, Some, None, unwrap_or, option_map}
 use Rattle.rw_base.specs.declared.edit.Edit.{Edit}
 use Rattle.rw_base.specs.declared.edit.Item.{Item}
 use Rattle.rw_base.specs.declared.edit.Item.TheVariants as item
-use Rattle.rw_base.specs.declared.edit.Spot.{Spot}
 use Rattle.rw_base.specs.declared.edit.Spot.TheVariants as spot
 use Rattle.rw_base.specs.declared.tree.NodeRow.{NodeRow}
 use Rattle.rw_base.specs.Arena.{Arena, leaf_at, prefix_of, text_of}
 use Rattle.rw_base.specs.Rows.{value}
-use Rattle.rw_base.specs.NewText.{AreSameEdits, edit_at, node_edit, leaf_edit, items_text, leaf_new, item_new}
-use Rattle.rw_base.specs.NewText.{items_new, row_new, node_new, new_text, front_of, without_front, join_parts}
+use Rattle.rw_base.specs.NewText.{AreSameEdits, node_edit, leaf_edit, items_text, leaf_new, item_new}
+use Rattle.rw_base.specs.NewText.{items_new, row_new, node_new, new_text, without_front, join_parts}
 use Rattle.rw_base.specs.declared.tree.Part.{Part}
 
 module _ (t : Arena) (bytes : List ℕ) (es fs : List Edit) (same : AreSameEdits es fs) where

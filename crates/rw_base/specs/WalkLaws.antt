@@ -1,11 +1,11 @@
 -- Walks over the parts of a node that keep the number of the leaf at which they are.
-use Rattle.std.proofs.Common.{◌≡◌, ℕ, zero, suc, ◌+◌, ◌-◌, ◌<◌, ◌≤◌, List, [], ◌∷◌, length, get_or, drop, refl}
+use Rattle.std.proofs.Common.{◌≡◌, ℕ, zero, suc, ◌+◌, ◌-◌, ◌<◌, List, ◌∷◌, length, get_or, drop, refl}
 use Rattle.std.proofs.Common.{sym, ap, subst, ◌∙◌, add-one, arith, drop-cons}
 use Rattle.rw_base.specs.declared.tree.NodeId.{NodeId}
 use Rattle.rw_base.specs.declared.tree.Part.{Part}
 use Rattle.rw_base.specs.declared.tree.Part.TheVariants as part
 use Rattle.rw_base.specs.Arena.{Arena, IsTree, AreBelow, Runs, first_of, past_of, parts_of}
-use Rattle.rw_base.specs.Trees.{leaves_in, width, numbers}
+use Rattle.rw_base.specs.Trees.{width, numbers}
 use Rattle.rw_base.specs.Laid.{kids_of}
 use Rattle.rw_base.specs.LaidLaws.{length-leaves_in}
 use Rattle.rw_base.specs.SpanLaws.{kids_leaves}

@@ -3,6 +3,8 @@ ghost use Rattle.std.specs.Prelude.{◌≡◌, IfOk};
 
 use crate::Mem;
 use std::alloc::Global;
+use std::fmt;
+use std::fmt::{Debug, Formatter, Write};
 use std::marker::Model;
 use std::sync::Arc;
 
@@ -47,5 +49,11 @@ impl<T: Drop> Shared<T> {
     {
         let inner = Arc::try_clone(&self.inner)?;
         Ok(Shared { inner })
+    }
+}
+
+impl<T: Debug> Debug for Shared<T> {
+    fn fmt<W: Write>(&self, f: &mut Formatter<W>) -> fmt::Result {
+        self.get().fmt(f)
     }
 }

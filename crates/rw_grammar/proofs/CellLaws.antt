@@ -8,7 +8,7 @@ use Rattle.std.proofs.lemmas.List.{get_or_past}
 use Rattle.std.proofs.lemmas.Option.{slice_get-get_or, slice_get_past, unwrap_or-slice_get}
 use Rattle.std.proofs.Math.ListN.{get_or-append}
 use Rattle.std.proofs.Math.Seq.{get_or-append_seam}
-use Rattle.rw_base.specs.Rows.{value, folded}
+use Rattle.rw_base.specs.Rows.{value, row_values}
 use Rattle.rw_base.specs.RowLaws.{value_at}
 use Rattle.rw_grammar.specs.declared.cells.Cell.{Cell}
 use Rattle.rw_grammar.specs.declared.cells.Cell.TheVariants as cell
@@ -65,37 +65,37 @@ shape_is cells n named lt =
 abbrev step : ℕ → Cell → (ℕ → Parts) → Parts
 step m c f = grown f c
 
-folded_append : (vs : List Parts) (xs ys : List Cell) → folded end step vs (xs ++ ys) ≡ folded end step (folded end step vs xs) ys
+folded_append : (vs : List Parts) (xs ys : List Cell) → row_values end step vs (xs ++ ys) ≡ row_values end step (row_values end step vs xs) ys
 folded_append vs [] ys = refl
 folded_append vs (r ∷ xs) ys = folded_append (vs ++ grown (λ m. get_or vs m end) r ∷ []) xs ys
 
-folded_front : (vs : List Parts) (rs : List Cell) → (more : List Parts) × (folded end step vs rs ≡ vs ++ more)
-folded_front vs [] = ([], sym (append-nil vs))
-folded_front vs (r ∷ rs) =
+row_values_front : (vs : List Parts) (rs : List Cell) → (more : List Parts) × (row_values end step vs rs ≡ vs ++ more)
+row_values_front vs [] = ([], sym (append-nil vs))
+row_values_front vs (r ∷ rs) =
     let x = grown (λ m. get_or vs m end) r in
-    let e = folded_front (vs ++ x ∷ []) rs in
+    let e = row_values_front (vs ++ x ∷ []) rs in
     (x ∷ e.0, e.1 ∙ append_assoc vs (x ∷ []) e.0)
 
-length-folded : (vs : List Parts) (rs : List Cell) → length (folded end step vs rs) ≡ length vs + length rs
-length-folded vs [] = omega arith
-length-folded vs (r ∷ rs) =
+length-row_values : (vs : List Parts) (rs : List Cell) → length (row_values end step vs rs) ≡ length vs + length rs
+length-row_values vs [] = omega arith
+length-row_values vs (r ∷ rs) =
     let x = grown (λ m. get_or vs m end) r in
-    omega (arith, length-folded (vs ++ x ∷ []) rs, length-append vs (x ∷ []))
+    omega (arith, length-row_values (vs ++ x ∷ []) rs, length-append vs (x ∷ []))
 
 -- further cells don't change what cells stand for
 pub shape_append : (xs ys : List Cell) (n : ℕ) → n < length xs → shape_at (xs ++ ys) n ≡ shape_at xs n
 unfolding shape_at value
 shape_append xs ys n lt =
-    let e = folded_front (folded end step [] xs) ys in
-    let long : n < length (folded end step [] xs) = omega (arith, length-folded [] xs) in
-    ap (λ vs. get_or vs n end) (folded_append [] xs ys ∙ e.1) ∙ get_or-append (folded end step [] xs) e.0 end n long
+    let e = row_values_front (row_values end step [] xs) ys in
+    let long : n < length (row_values end step [] xs) = omega (arith, length-row_values [] xs) in
+    ap (λ vs. get_or vs n end) (folded_append [] xs ys ∙ e.1) ∙ get_or-append (row_values end step [] xs) e.0 end n long
 
 -- the next cell stands for its shape in front of what it names
 pub shape_last : (xs : List Cell) (c : Cell) → shape_at (xs ++ c ∷ []) (length xs) ≡ grown (shape_at xs) c
 unfolding shape_at value
 shape_last xs c =
-    let vs = folded end step [] xs in
-    let long : length xs ≡ length vs = omega (arith, length-folded [] xs) in
+    let vs = row_values end step [] xs in
+    let long : length xs ≡ length vs = omega (arith, length-row_values [] xs) in
     ap (λ us. get_or us (length xs) end) (folded_append [] xs (c ∷ [])) ∙ (ap (λ n. get_or (vs ++ grown (λ m. get_or vs m end) c ∷ []) n end) long ∙ get_or-append_seam vs (grown (λ m. get_or vs m end) c) [] end)
 
 below_more : (n m : ℕ) (ys : List ℕ) → n ≤ m → AllBelow n ys → AllBelow m ys

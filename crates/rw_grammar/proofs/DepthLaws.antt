@@ -8,7 +8,7 @@ use Rattle.rw_base.specs.declared.tree.Part.TheVariants as part
 use Rattle.rw_base.specs.declared.tree.NodeRow.{NodeRow}
 use Rattle.rw_base.specs.Arena.{row_at, no_row, first_of, parts_of}
 use Rattle.rw_base.specs.Trees.{none, leaf, node, Forest, size, width, trees_in}
-use Rattle.rw_base.specs.Rows.{value, folded}
+use Rattle.rw_base.specs.Rows.{value, row_values}
 use Rattle.rw_base.specs.RowLaws.{value_at}
 use Rattle.rw_base.specs.Laid.{parts_from, rows_from}
 use Rattle.rw_base.specs.LaidLaws.{row_from, length-rows, length-parts, rows_leaf, rows_node}
@@ -19,7 +19,7 @@ use Rattle.rw_grammar.specs.Results as results
 
 -- ---- the heights that the code makes
 
-fold_append : (vs : List ℕ) (xs ys : List NodeRow) → folded 0 height_by vs (xs ++ ys) ≡ folded 0 height_by (folded 0 height_by vs xs) ys
+fold_append : (vs : List ℕ) (xs ys : List NodeRow) → row_values 0 height_by vs (xs ++ ys) ≡ row_values 0 height_by (row_values 0 height_by vs xs) ys
 fold_append vs [] ys = refl
 fold_append vs (r ∷ xs) ys = fold_append (vs ++ height_by (length vs) r (λ m. slice_index_or vs m 0) ∷ []) xs ys
 

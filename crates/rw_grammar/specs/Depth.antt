@@ -3,7 +3,7 @@ use Rattle.std.specs.Prelude.{ℕ, ◌+◌, max, nat_le, nat_lt, if◌then◌els
 use Rattle.rw_base.specs.declared.tree.Part.{Part}
 use Rattle.rw_base.specs.declared.tree.Part.TheVariants as part
 use Rattle.rw_base.specs.declared.tree.NodeRow.{NodeRow}
-use Rattle.rw_base.specs.Rows.{folded}
+use Rattle.rw_base.specs.Rows.{row_values}
 
 -- a node with two or more parts counts
 abbrev pub worth : ℕ → ℕ
@@ -26,4 +26,4 @@ height_by m r f = worth (length r.parts) + highest_of f r.parts
 
 -- the heights of all rows
 abbrev pub all_heights : List NodeRow → List ℕ
-all_heights rows = folded 0 height_by [] rows
+all_heights rows = row_values 0 height_by [] rows

@@ -1,5 +1,4 @@
-use Rattle.std.proofs.Common.{◌≡◌, ◌∙◌, ℕ, ◌≤◌, length, slice_range, slice_index_or, sym, ap, subst}
-use Rattle.rw_base.specs.Heads.{parts_start}
+use Rattle.std.proofs.Common.{◌∙◌, ℕ, ◌≤◌, length, slice_range, slice_index_or, sym, ap, subst}
 use Rattle.rw_base.specs.declared.nodes.NodeHead.{NodeHead}
 use Rattle.rw_base.proofs.HeadLemmas.{row_is, inside}
 use Rattle.rw_base.proofs.nodes.range_at.Goals as goal

@@ -1,5 +1,4 @@
-use Rattle.std.proofs.Common.{◌≡◌, ◌∙◌, zero, suc, sym, ap, subst, arith}
-use Rattle.rw_base.specs.Heads.{parts_start}
+use Rattle.std.proofs.Common.{sym, arith}
 use Rattle.rw_base.proofs.HeadLemmas.{start_first, start_behind}
 use Rattle.rw_base.proofs.nodes.start_at.Goals as goal
 
