@@ -16,15 +16,19 @@
 #![tactic(auto)]
 
 mod changes;
-mod paths;
+mod checking;
+mod limits;
 mod renaming;
 mod rewrite;
-mod status;
+mod running;
+mod sources;
+mod stop;
 #[cfg(test)]
 mod tests;
+mod words;
 
 use crate::rewrite::rewrite;
-use crate::status::{NO_MEMORY, USAGE};
+use crate::stop::{NO_MEMORY, USAGE};
 use rw_base::Mem;
 use rw_host::{FolderStore, OpenGate, StdSink};
 use std::alloc::Global;
