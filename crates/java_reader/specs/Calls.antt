@@ -1,4 +1,7 @@
--- The calls and creations with arguments among trees, in the order of their name leaves.
+-- The calls and creations with arguments among trees, in the order of their name leaves: method invocations (15.12 in
+-- the Java Language Specification), class instance creations (15.9), and the calls of constructors that begin a
+-- constructor (8.8.7.1). In all of them the name is the last leaf before the arguments that isn't in type arguments.
+-- Here c tells the class of each leaf.
 use Rattle.std.specs.Prelude.{◌≡◌, ℕ, ◌+◌, ◌==◌, Bool, true, false, ◌||◌, ◌&&◌, nat_le, nat_lt, List, [], ◌∷◌, ◌++◌}
 use Rattle.std.specs.Prelude.{Option, Some, None, if◌then◌else◌}
 use Rattle.rw_base.specs.Trees.{Numbered, none, leaf, node}
@@ -15,10 +18,11 @@ use Rattle.java_reader.specs.declared.unit.UnitRef.{UnitRef}
 abbrev pub opens : ℕ → Bool
 opens k = (k == DOT) || (k == CREATOR) || (k == NEW_TYPE) || (k == NEW_REST)
 
--- a leaf that begins a creation
+-- A leaf that begins a creation: calls of `this` and `super` are creations too.
 abbrev pub creates : ℕ → Bool
 creates x = (x == NEW) || (x == THIS) || (x == SUPER)
 
+-- What was seen of a call so far: its name, whether it is a creation, and its arguments, behind which nothing counts.
 abbrev pub nothing : Seen
 nothing = record { name = None; is_new = false; args = None }
 

@@ -1,4 +1,4 @@
--- The kinds of nodes by their numbers, and what a node of a kind is to the units of a file.
+-- The kinds of nodes by their numbers: rule number k of the table makes nodes of kind number k.
 use Rattle.std.specs.Prelude.{ℕ, ◌<◌, List, length, Option, IsSome, slice_get}
 use Rattle.rw_base.specs.declared.tree.NodeRow.{NodeRow}
 use Rattle.rw_base.specs.Arena.{kind_of}

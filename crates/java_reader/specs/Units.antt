@@ -1,4 +1,5 @@
--- The units of a file: its package and imports, the head of each type, and each member.
+-- The units of a file: its package and imports, the head of each type, and each member. (In the Java Language
+-- Specification: compilation units in 7.3, types and their members in 8 and 9, enum constants in 8.9.1.)
 use Rattle.std.specs.Prelude.{◌≡◌, ℕ, ◌+◌, ◌<◌, ◌^◌, ◌==◌, Bool, true, false, ◌||◌, List, [], ◌∷◌, ◌++◌}
 use Rattle.std.specs.Prelude.{length, Option, Some, None, unwrap_or, if◌then◌else◌}
 use Rattle.rw_base.specs.Trees.{Trees, none, leaf, node, width, size}
@@ -16,7 +17,8 @@ use Rattle.java_reader.specs.declared.unit.UnitKind.{UnitKind}
 use Rattle.java_reader.specs.declared.unit.UnitKind.TheVariants as unit_kind
 use Rattle.java_reader.specs.declared.unit.UnitRef.{UnitRef}
 
--- What a node of a kind is to the units: it declares a type, has modifiers and a declaration, is a body, or a member.
+-- What a node of a kind is to the units: it declares a type, has modifiers and a declaration, is a body, or a member. A
+-- Block in a body is an initializer; those in methods lie in members, where nobody looks.
 abbrev pub role : Kind → Role
 role Class = Declares
 role Interface = Declares
@@ -82,6 +84,7 @@ some_node none = false
 some_node (leaf l f) = some_node f
 some_node (node _ k kids f) = true
 
+-- c tells the class of each leaf.
 module _ (c : ℕ → ℕ) where
   -- the leaves of a declaration up to before its body
   unfoldable pub head_width : {N : Type 0} → Trees N ℕ → ℕ
@@ -89,7 +92,8 @@ module _ (c : ℕ → ℕ) where
   head_width (leaf l f) = if c l == BRACE_OPEN then 0 else 1 + head_width f
   head_width (node _ k kids f) = if is_body (role_of k) then 0 else width kids + head_width f
 
-  -- The units of a node, by those of its parts.
+  -- The units of a node, by those of its parts: a type's head before its members; of modifiers with a type its units,
+  -- and with anything else one member.
   abbrev pub of_node : {N : Type 0} → Role → ℕ → ℕ → ℕ → Trees N ℕ → List UnitRef → List UnitRef
   of_node Declares owner from at kids inner = unit unit_kind.Head from (at + head_width kids) owner ∷ inner
   of_node Modified owner from at kids inner =

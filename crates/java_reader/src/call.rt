@@ -146,35 +146,14 @@ fn own_call(tree: &Tree, n: NodeId, p: u32, m: NodeId) -> Option<CallView>
     ensures { let t = tree.now in
         option_to_list result ≡ own_call (class_in t.leaves) n.0 p m.0 (kind_of t.nodes m.0) (kids_of t.nodes m.0) }
 {
+    let nothing = Seen {
+        name: None,
+        is_new: false,
+        args: None,
+    };
     match tree.kind(m) {
-        PRIMARY => call_at(
-            m,
-            1,
-            0,
-            seen_in(
-                tree,
-                m,
-                Seen {
-                    name: None,
-                    is_new: false,
-                    args: None,
-                },
-            ),
-        ),
-        SELECTOR => call_at(
-            n,
-            p,
-            p,
-            seen_in(
-                tree,
-                m,
-                Seen {
-                    name: None,
-                    is_new: false,
-                    args: None,
-                },
-            ),
-        ),
+        PRIMARY => call_at(m, 1, 0, seen_in(tree, m, nothing)),
+        SELECTOR => call_at(n, p, p, seen_in(tree, m, nothing)),
         _ => None,
     }
 }
@@ -186,7 +165,7 @@ fn is_within(first: u32, past: u32, leaf: u32) -> bool
 }
 
 // Appends a call if its name leaf is one of these leaves.
-fn put(call: Option<CallView>, first: u32, past: u32, out: &mut Vec<CallView>) -> Mem<()>
+fn append_within(call: Option<CallView>, first: u32, past: u32, out: &mut Vec<CallView>) -> Mem<()>
     ensures { OnOk result (out.new.items ≡ out.old.items ++ within first past (option_to_list call)) }
 {
     match call {
@@ -201,7 +180,7 @@ fn put(call: Option<CallView>, first: u32, past: u32, out: &mut Vec<CallView>) -
 }
 
 // The first leaf of a part.
-fn begin_of(tree: &Tree, part: Part) -> u32
+fn first_leaf(tree: &Tree, part: Part) -> u32
     requires { IsPartIn tree.now part }
     ensures { result ≡ begin_at tree.now.nodes part }
 {
@@ -244,14 +223,7 @@ fn first_part(tree: &Tree, n: NodeId, first: u32) -> usize
 
 // Appends the calls among the parts of a node whose name leaf is one of these leaves.
 #[cycle(calls)]
-fn add_calls(
-    alloc: Global,
-    tree: &Tree,
-    n: NodeId,
-    first: u32,
-    past: u32,
-    out: &mut Vec<CallView>,
-) -> Mem<()>
+fn add_calls(tree: &Tree, n: NodeId, first: u32, past: u32, out: &mut Vec<CallView>) -> Mem<()>
     requires { n.0 < length tree.now.nodes }
     ensures { let t = tree.now in
         let more = calls_in (class_in t.leaves) n.0 0 (kids_of t.nodes n.0) in
@@ -261,7 +233,7 @@ fn add_calls(
     let parts = tree.parts(n);
     let from = first_part(tree, n, first);
     for p in from..parts.len() {
-        if past <= begin_of(tree, parts[p]) {
+        if past <= first_leaf(tree, parts[p]) {
             return Ok(());
         }
         if p >= u32::MAX as usize {
@@ -269,7 +241,7 @@ fn add_calls(
         }
         match parts[p] {
             Part::Leaf(_) => {}
-            Part::Node(m) => add_node(alloc, tree, n, p as u32, m, first, past, out)?,
+            Part::Node(m) => add_node(tree, n, p as u32, m, first, past, out)?,
         }
     }
     Ok(())
@@ -278,7 +250,6 @@ fn add_calls(
 // Appends those of a part.
 #[cycle(calls)]
 fn add_node(
-    alloc: Global,
     tree: &Tree,
     n: NodeId,
     p: u32,
@@ -300,8 +271,8 @@ fn add_node(
     if past <= begin {
         return Ok(());
     }
-    put(own_call(tree, n, p, m), first, past, out)?;
-    add_calls(alloc, tree, m, first, past, out)?;
+    append_within(own_call(tree, n, p, m), first, past, out)?;
+    add_calls(tree, m, first, past, out)?;
     Ok(())
 }
 
@@ -310,6 +281,6 @@ pub fn calls(alloc: Global, tree: &Tree, unit: UnitRef) -> Mem<Vec<CallView>>
     ensures { IfOk result (λ v. v.items ≡ calls_of tree.now unit) }
 {
     let mut out = Vec::new(alloc);
-    add_calls(alloc, tree, tree.root(), unit.first, unit.past, &mut out)?;
+    add_calls(tree, tree.root(), unit.first, unit.past, &mut out)?;
     Ok(out)
 }

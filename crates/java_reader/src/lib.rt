@@ -31,5 +31,5 @@ mod unit;
 pub use call::{CallView, calls};
 pub use kind::{Kind, kind_in};
 pub use laws::{java_rules_are_sound, readings_are_one};
-pub use read::JavaReader;
+pub use read::{EXPR_ROOT, JavaReader, MEMBER_ROOT, UNIT};
 pub use unit::{UnitKind, UnitRef, units};

@@ -18,11 +18,14 @@ use std::alloc::Global;
 use std::marker::Model;
 use std::sync::ledger::Ledger;
 
-const UNIT: u16 = Kind::Unit as u16;
+/// The rule of a file.
+pub const UNIT: u16 = Kind::Unit as u16;
 
-const MEMBER_ROOT: u16 = Kind::MemberRoot as u16;
+/// The rule of a member that stands alone.
+pub const MEMBER_ROOT: u16 = Kind::MemberRoot as u16;
 
-const EXPR_ROOT: u16 = Kind::ExprRoot as u16;
+/// The rule of an expression that stands alone.
+pub const EXPR_ROOT: u16 = Kind::ExprRoot as u16;
 
 /// Reads Java 8. It keeps the table, which is checked once.
 #[derive(Drop)]

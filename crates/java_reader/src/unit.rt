@@ -46,7 +46,7 @@ pub fn units(alloc: Global, tree: &Tree) -> Mem<Vec<UnitRef>>
         past,
         owner: 0,
     })?;
-    add_units(alloc, tree, root, 0, None, &mut out)?;
+    add_units(tree, root, 0, None, &mut out)?;
     Ok(out)
 }
 
@@ -74,7 +74,6 @@ fn top_end(tree: &Tree, n: NodeId) -> u32
 // Appends the units among the parts of a node.
 #[cycle(units)]
 fn add_units(
-    alloc: Global,
     tree: &Tree,
     n: NodeId,
     owner: u32,
@@ -93,7 +92,7 @@ fn add_units(
     for part in parts {
         match part {
             Part::Leaf(_) => {}
-            Part::Node(m) => add_node(alloc, tree, n, *m, owner, outer, out)?,
+            Part::Node(m) => add_node(tree, n, *m, owner, outer, out)?,
         }
     }
     Ok(())
@@ -102,7 +101,6 @@ fn add_units(
 // Appends the units of a part.
 #[cycle(units)]
 fn add_node(
-    alloc: Global,
     tree: &Tree,
     n: NodeId,
     m: NodeId,
@@ -129,12 +127,12 @@ fn add_node(
                 past: end,
                 owner,
             })?;
-            add_units(alloc, tree, m, number, None, out)?;
+            add_units(tree, m, number, None, out)?;
             Ok(())
         }
         Role::Modified => {
             if declares(tree, m) {
-                add_units(alloc, tree, m, owner, Some(first), out)?;
+                add_units(tree, m, owner, Some(first), out)?;
                 return Ok(());
             }
             if has_node(tree, m) {
@@ -148,7 +146,7 @@ fn add_node(
             Ok(())
         }
         Role::Holds => {
-            add_units(alloc, tree, m, owner, None, out)?;
+            add_units(tree, m, owner, None, out)?;
             Ok(())
         }
         Role::Stands => {

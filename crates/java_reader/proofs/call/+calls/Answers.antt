@@ -9,16 +9,16 @@ use Rattle.java_reader.proofs.SkipSteps.{part_in, node_below, none_left, leaf_pa
 use Rattle.java_reader.proofs.call.+calls.Goals as goal
 use Rattle.java_reader.proofs.call.+calls.Goals.{add_calls-in-Leaf, add_calls-in-Node+in_ok-add_node-in-Node}
 
-pub add_calls-begin_of-requires : goal.add_calls-begin_of-requires
-add_calls-begin_of-requires t c =
+pub add_calls-first_leaf-requires : goal.add_calls-first_leaf-requires
+add_calls-first_leaf-requires t c =
     part_in c.args.tree.now c.args.n.0 c.requires c.parts-parts.result.now c.loop-p.p (part.Leaf 0) c.parts-parts.ensures.below
     c.loop-p-test.true
 
-pub add_calls-returns-then-past-begin_of : goal.add_calls-returns-then-past-begin_of
-add_calls-returns-then-past-begin_of t c =
+pub add_calls-returns-then-past-first_leaf : goal.add_calls-returns-then-past-first_leaf
+add_calls-returns-then-past-first_leaf t c =
     none_left c.args.tree.now c.args.n.0 c.args.first c.parts-parts.result.now c.loop-p.p (part.Leaf 0) c.parts-parts.ensures.parts
     c.root.ensures.tree c.requires c.loop-p-test.true c.args.past c.loop-p.out.items _
-    (omega (arith, c.begin_of.ensures, c.if-past-begin_of.true)) c.loop-p.invariant
+    (omega (arith, c.first_leaf.ensures, c.if-past-first_leaf.true)) c.loop-p.invariant
 
 pub add_calls-add_node-requires : goal.add_calls-add_node-requires
 add_calls-add_node-requires t c =
@@ -60,5 +60,5 @@ add_node-returns-then-past-begin t c =
 pub add_node-returns : goal.add_node-returns
 add_node-returns t c =
     let own = own_call (class_in c.args.tree.now.leaves) c.args.n.0 c.args.p c.args.m.0 (kind_of c.args.tree.now.nodes c.args.m.0) (kids_of c.args.tree.now.nodes c.args.m.0) in
-    calls_both c.args.first c.args.past c.args.out.now.items c.put.new.out.items c.add_calls.new.out.items own (calls_in (class_in c.args.tree.now.leaves) c.args.m.0 0 (kids_of c.args.tree.now.nodes c.args.m.0))
-    (c.in_ok-put.ensures ∙ ap (λ vs. c.args.out.now.items ++ within c.args.first c.args.past vs) c.own_call.ensures) c.in_ok-add_calls.ensures
+    calls_both c.args.first c.args.past c.args.out.now.items c.append_within.new.out.items c.add_calls.new.out.items own (calls_in (class_in c.args.tree.now.leaves) c.args.m.0 0 (kids_of c.args.tree.now.nodes c.args.m.0))
+    (c.in_ok-append_within.ensures ∙ ap (λ vs. c.args.out.now.items ++ within c.args.first c.args.past vs) c.own_call.ensures) c.in_ok-add_calls.ensures
