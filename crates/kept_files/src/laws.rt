@@ -6,7 +6,6 @@ ghost use Rattle.kept_files.specs.Readings.{AreBytesOrNone, IsReading};
 use java_reader::readings_are_one;
 
 /// A file reads as one thing: two readings of one path and bytes are equal.
-#[tactic(auto, using(crate::proofs::Readings::one))]
 pub fn a_file_reads_as_one_thing()
     ensures { (path : List ℕ) (bytes : Option (List ℕ)) (a b : Reading) → AreBytesOrNone bytes
         → IsReading path bytes a → IsReading path bytes b → a ≡ b }

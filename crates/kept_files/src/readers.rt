@@ -3,6 +3,7 @@ ghost use Rattle.std.specs.Prelude.{◌≡◌, ℕ, ◌≤◌, Some, IfOk, OnOk}
 ghost use Rattle.kept_files.specs.Kinds.{kind_of};
 ghost use Rattle.kept_files.specs.Readings.{AreReadings, AreSteps, EndsWith, IsReadAs, IsReading, Reads};
 ghost use Rattle.kept_files.specs.Readings.{properties_reading};
+ghost use Rattle.java_lex.specs.Laws.{AreBytes};
 
 use crate::kind::{FileKind, kind_of};
 use java_reader::JavaReader;
@@ -30,12 +31,7 @@ fn read_as_properties(alloc: Global, bytes: &[u8]) -> Mem<Reading>
     }
 }
 
-#[tactic(auto, using(crate::proofs::Readings::java))]
-fn read_as_java<L: Ledger>(
-    reader: &JavaReader,
-    bytes: &[u8],
-    steps: &mut Steps<L>,
-) -> Mem<Reading>
+fn read_as_java<L: Ledger>(reader: &JavaReader, bytes: &[u8], steps: &mut Steps<L>) -> Mem<Reading>
     ensures reading { IfOk result (λ r. IsReadAs FileKind.Java bytes.now r) }
     ensures whole { IfOk result (λ r. EndsWith bytes.now r) }
     ensures steps { OnOk result (AreSteps FileKind.Java bytes.now steps.old steps.new) }
@@ -47,6 +43,11 @@ fn read_as_java<L: Ledger>(
         Err(ReadFault::NoMemory) => Err(NoMemory),
     }
 }
+
+// The bytes of a file are bytes.
+fn are_bytes(bytes: &[u8])
+    ensures { AreBytes bytes.now }
+{}
 
 impl Readers {
     /// The readers. It fails only where memory is wanting.
@@ -72,6 +73,7 @@ impl Readers {
         ensures steps { OnOk result (AreSteps (kind_of path.now) bytes.now steps.old steps.new) }
         ensures at_most { (most : ℕ) → AreSteps (kind_of path.now) bytes.now steps.old most → steps.new ≤ most }
     {
+        are_bytes(bytes);
         match kind_of(path) {
             FileKind::Java => read_as_java(&self.java, bytes, steps),
             FileKind::Properties => read_as_properties(alloc, bytes),

@@ -32,7 +32,8 @@ pub const OUTPUT_FAULT: u8 = 7;
 pub const LIMIT: u8 = 8;
 
 /// What is told of words that aren't those of a command. All commands stand there, also those to come.
-pub const USAGE_LINE: &[u8] = b"usage: rewrite run|dry|types --recipe NAME [--workers N] [--cycles N] | check [--workers N] | \
+pub const USAGE_LINE: &[u8] =
+    b"usage: rewrite run|dry|types --recipe NAME [--workers N] [--cycles N] | check [--workers N] | \
 recover | history | gen N\n";
 
 /// What a command that was done tells.

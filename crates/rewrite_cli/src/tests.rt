@@ -128,7 +128,10 @@ fn check_tells_what_fails(rt: HostRuntime) -> Result<(), Fail> {
         ("the sink", 99, 39, 7, b""),
     ];
     for (name, call, room, status, text) in table {
-        assert!(rt; checks(rt.alloc(), call, room, status, text)?, "where {name} fails");
+        assert!(rt;
+            checks(rt.alloc(), call, room, status, text)?,
+            "where {name} fails"
+        );
     }
     Ok(())
 }

@@ -35,7 +35,8 @@ pub fn is_check(words: &[String]) -> bool
 {
     match words {
         [command] => is_same(command.as_bytes(), b"check"),
-        [command, option] => is_same(command.as_bytes(), b"check") && has_workers(option.as_bytes()),
+        [command, option] => is_same(command.as_bytes(), b"check")
+            && has_workers(option.as_bytes()),
         [command, option, value] => {
             is_same(command.as_bytes(), b"check")
                 && is_same(option.as_bytes(), b"--workers")
