@@ -3,4 +3,8 @@ pub mod Refusals
 pub mod After
 pub mod Outcomes
 pub mod Answering
-pub mod Checking
+pub mod FoundInFile
+pub mod WorkerCounts
+pub mod CheckWords
+pub mod Walked
+pub mod Asked

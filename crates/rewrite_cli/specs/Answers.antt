@@ -1,5 +1,5 @@
 -- What a command answers, and what it leaves.
-use Rattle.std.specs.Prelude.{◌≡◌, ℕ, ◌≤◌, Bool, List, [], ◌++◌, codes, Option, None, Some, Result, Ok, Err, ◌⊎◌}
+use Rattle.std.specs.Prelude.{◌≡◌, ℕ, ◌==◌, Bool, List, [], ◌++◌, codes, Option, None, Some, Result, Ok, Err, ◌⊎◌}
 use Rattle.std.specs.Prelude.{if◌then◌else◌}
 use Rattle.std.specs.Option.{option_map}
 use Rattle.std.specs.FinMap as map
@@ -50,10 +50,11 @@ AreLeft a after = (path : List ℕ) → map.get after path ≡ a.left path
 
 -- the line of a status that no answer has
 abbrev pub fault_line : ℕ → List ℕ
-fault_line 2 = USAGE_LINE
-fault_line 4 = codes "read fault\n"
-fault_line 5 = codes "write fault\n"
-fault_line _ = []
+fault_line status =
+    if status == 2 then USAGE_LINE.now
+    else if status == 4 then codes "read fault\n"
+    else if status == 5 then codes "write fault\n"
+    else []
 
 -- A text was put behind what was put before, or the first part of it where the sink failed.
 abbrev pub IsPut : Type 0 → List ℕ → List ℕ → List ℕ → Type 0

@@ -1,6 +1,6 @@
 -- What `check` tells of a repository.
-use Rattle.std.specs.Prelude.{ℕ, Bool, true, false, ◌&&◌, ◌||◌, List, [], ◌∷◌, ◌++◌, decimal, codes}
-use Rattle.std.specs.Prelude.{Option, if◌then◌else◌}
+use Rattle.std.specs.Prelude.{ℕ, Bool, false, ◌||◌, List, [], ◌∷◌, ◌++◌, decimal, codes}
+use Rattle.std.specs.Prelude.{Option, None, Some, is_some, if◌then◌else◌}
 use Rattle.std.specs.Option.{option_map}
 use Rattle.std.specs.FinMap as map
 use Rattle.rw_base.specs.declared.place.Cause.{Cause}
@@ -28,36 +28,34 @@ name_of TooDeep = codes "TooDeep"
 -- the line of a file that is refused: its path, the line and the column, and the cause
 unfoldable pub refused_line : List ℕ → Refused → List ℕ
 refused_line path r =
-    codes "refused " ++ (path ++ (codes " " ++ (decimal r.place.line ++ (codes ":" ++ (decimal r.place.column
-    ++ (codes " " ++ (name_of r.cause ++ codes "\n")))))))
+    codes "refused " ++ path ++ codes " " ++ decimal r.place.line ++ codes ":" ++ decimal r.place.column ++ codes " "
+    ++ name_of r.cause ++ codes "\n"
 
--- what is told of a file, and whether it is refused, by what it reads as
-abbrev pub line_of : List ℕ → Reading → List ℕ
-line_of path (reading.Refused r) = refused_line path r
-line_of path _ = []
+-- why a file is refused, by what it reads as, and what is told of that
+abbrev pub refusal_in : Reading → Option Refused
+refusal_in (reading.Refused r) = Some r
+refusal_in _ = None
 
-abbrev pub is_refusal : Reading → Bool
-is_refusal (reading.Refused r) = true
-is_refusal _ = false
+abbrev pub line_of : List ℕ → Option Refused → List ℕ
+line_of path None = []
+line_of path (Some r) = refused_line path r
 
-unfoldable pub line_at : Reads → Files → List ℕ → List ℕ
-line_at read files path = if is_read path then line_of path (reading_at read files path) else []
-
-unfoldable pub is_refused : Reads → Files → List ℕ → Bool
-is_refused read files path = is_read path && is_refusal (reading_at read files path)
+-- why the file at a path is refused; one that isn't read is never
+unfoldable pub refusal_at : Reads → Files → List ℕ → Option Refused
+refusal_at read files path = if is_read path then refusal_in (reading_at read files path) else None
 
 -- of all files at these paths
 abbrev pub lines : Reads → Files → List (List ℕ) → List ℕ
 lines read files [] = []
-lines read files (path ∷ paths) = line_at read files path ++ lines read files paths
+lines read files (path ∷ paths) = line_of path (refusal_at read files path) ++ lines read files paths
 
 abbrev pub any_refused : Reads → Files → List (List ℕ) → Bool
 any_refused read files [] = false
-any_refused read files (path ∷ paths) = is_refused read files path || any_refused read files paths
+any_refused read files (path ∷ paths) = is_some (refusal_at read files path) || any_refused read files paths
 
 -- the line of the number of files that are read
 unfoldable pub count_line : ℕ → List ℕ
-count_line n = codes "files " ++ (decimal n ++ codes "\n")
+count_line n = codes "files " ++ decimal n ++ codes "\n"
 
 -- the whole text: how many files are read, and a line for each that is refused, in the order of paths
 unfoldable pub check_text : Reads → Files → List ℕ

@@ -1,5 +1,5 @@
 -- The limits of a repository.
-use Rattle.std.specs.Prelude.{ℕ, nat_lt, List, ◌++◌, decimal, codes, Option, None, Some, if◌then◌else◌}
+use Rattle.std.specs.Prelude.{ℕ, nat_lt, List, codes, Option, None, Some, if◌then◌else◌}
 use Rattle.std.specs.FinMap as map
 use Rattle.rw_host.specs.Files.{Files}
 use Rattle.rewrite_cli.specs.declared.limits.Limit.{Limit}
@@ -20,15 +20,7 @@ limit_of_check files =
     else None
 
 -- what is told of it
-abbrev pub quantity : Limit → List ℕ
-quantity limit.Paths = codes "paths"
-quantity limit.Files = codes "files"
-quantity limit.Bytes = codes "bytes"
-
-abbrev pub most : Limit → ℕ
-most limit.Paths = MOST_PATHS
-most limit.Files = MOST_FILES
-most limit.Bytes = MOST_IN_ALL
-
 unfoldable pub limit_line : Limit → List ℕ
-limit_line l = codes "limit: " ++ (quantity l ++ (codes " more than " ++ (decimal (most l) ++ codes "\n")))
+limit_line limit.Paths = codes "limit: paths more than 100000\n"
+limit_line limit.Files = codes "limit: files more than 10000\n"
+limit_line limit.Bytes = codes "limit: bytes more than 67108864\n"

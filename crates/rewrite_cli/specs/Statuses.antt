@@ -39,7 +39,7 @@ text_of (Err stop.NoMemory) = fault_line 6
 text_of (Err (stop.Limit l)) = limit_line l
 
 -- a command was done, or stopped by a limit, as its answer says
-abbrev pub IsAnswered : Answer → Result Done Stop → Files → Type 0
+unfoldable pub IsAnswered : Answer → Result Done Stop → Files → Type 0
 IsAnswered a (Ok d) after = (done d.any_refused ≡ a.status) × ((d.text.items ≡ a.text) × AreLeft a after)
 IsAnswered a (Err (stop.Limit l)) after = (8 ≡ a.status) × ((limit_line l ≡ a.text) × AreLeft a after)
 IsAnswered a (Err _) after = Unit {0}

@@ -1,5 +1,5 @@
 -- The words of the command line, and what they ask for.
-use Rattle.std.specs.Prelude.{ℕ, Bool, true, false, ◌&&◌, ◌||◌, List, [], ◌∷◌, length, take, drop, decimal, codes}
+use Rattle.std.specs.Prelude.{ℕ, zero, suc, Bool, true, false, ◌&&◌, ◌||◌, nat_lt, List, [], ◌∷◌, length, take, drop, decimal, codes}
 use Rattle.std.specs.Prelude.{Option, None, Some, if◌then◌else◌}
 use Rattle.std.specs.Str.{bytes_eq}
 use Rattle.std.specs.Option.{option_map}
@@ -32,8 +32,8 @@ options_in words = option_map (λ keys. options_of keys.0 keys.1) (keys_of words
 -- ---- `check`, which may have a number of workers behind it, as `--workers 8` or `--workers=8`
 
 -- whether a word is a number from 1 to this one, in decimal
-abbrev pub is_number_to : ℕ → List ℕ → Bool
-is_number_to 0 word = false
+unfoldable pub is_number_to : ℕ → List ℕ → Bool
+is_number_to zero word = false
 is_number_to (suc n) word = bytes_eq word (decimal (suc n)) || is_number_to n word
 
 unfoldable pub is_worker_count : List ℕ → Bool
@@ -45,7 +45,8 @@ workers_option = codes "--workers"
 -- whether a word is the option with its value
 unfoldable pub has_workers : List ℕ → Bool
 has_workers word =
-    bytes_eq (take 10 word) (codes "--workers=") && is_worker_count (drop 10 word)
+    if nat_lt (length word) 10 then false
+    else bytes_eq (take 10 word) (codes "--workers=") && is_worker_count (drop 10 word)
 
 unfoldable pub is_check : List (List ℕ) → Bool
 is_check (command ∷ []) = bytes_eq command (codes "check")

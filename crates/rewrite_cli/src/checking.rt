@@ -1,10 +1,10 @@
 // What `check` tells of a repository.
-ghost use Rattle.std.specs.Prelude.{◌≡◌, ◌≢◌, ◌≤◌, ◌<◌, ◌+◌, ◌++◌, ◌||◌, ◌×◌, IsTrue, IfOk, OnOk, Err, decimal};
+ghost use Rattle.std.specs.Prelude.{◌≡◌, ◌≢◌, ◌≤◌, ◌<◌, ◌+◌, ◌++◌, ◌||◌, IsTrue, IfOk, OnOk, Err, Some, is_some, decimal};
 ghost use Rattle.rw_host.specs.Files.{Rose};
 ghost use Rattle.kept_files.specs.Readings.{AreReadings, Reads};
 ghost use Rattle.rewrite_cli.specs.Sources.{bytes_at, bytes_read};
-ghost use Rattle.rewrite_cli.specs.Checking.{any_refused, count_line, is_refusal, is_refused, line_at, line_of, lines};
-ghost use Rattle.rewrite_cli.specs.Checking.{name_of, refused_line};
+ghost use Rattle.rewrite_cli.specs.Checking.{any_refused, count_line, line_of, lines, name_of, refusal_at, refusal_in};
+ghost use Rattle.rewrite_cli.specs.Checking.{refused_line};
 ghost use Rattle.rewrite_cli.specs.Answers.{answer};
 ghost use Rattle.rewrite_cli.specs.Statuses.{IsAnswered};
 ghost use Rattle.rewrite_cli.specs.Words.{check};
@@ -50,6 +50,7 @@ fn put_number(text: &mut Vec<u8>, number: u64) -> Mem<()>
 }
 
 // The line of the number of files that are read.
+#[tactic(auto, unfolding(crate::specs::Checking::count_line))]
 fn count_line(alloc: Global, count: usize) -> Mem<Vec<u8>>
     ensures { IfOk result (λ line. line.items ≡ count_line count) }
 {
@@ -60,6 +61,7 @@ fn count_line(alloc: Global, count: usize) -> Mem<Vec<u8>>
 }
 
 // Appends the line of a file that is refused.
+#[tactic(auto, using(crate::proofs::FoundInFile::joined))]
 fn put_refusal(text: &mut Vec<u8>, path: &str, refused: &Refused) -> Mem<()>
     ensures { OnOk result (text.new.items ≡ text.old.items ++ refused_line path.now refused.now) }
 {
@@ -75,22 +77,46 @@ fn put_refusal(text: &mut Vec<u8>, path: &str, refused: &Refused) -> Mem<()>
     Ok(())
 }
 
-// Notes what a file reads as.
-fn note_reading(findings: &mut Findings, path: &str, reading: &Reading) -> Mem<()>
-    ensures text { OnOk result (
-        findings.new.text.items ≡ findings.old.text.items ++ line_of path.now reading.now) }
-    ensures refused { OnOk result (
-        findings.new.any_refused ≡ (findings.old.any_refused || is_refusal reading.now)) }
+// Why a file is refused, if it is, by what it reads as.
+fn refusal_in(reading: Reading) -> Option<Refused>
+    ensures { result ≡ refusal_in reading }
+{
+    match reading {
+        Reading::Refused(refused) => Some(refused),
+        _ => None,
+    }
+}
+
+// Why a file of these bytes is refused, if it is.
+fn refusal_of<L: Ledger>(
+    alloc: Global,
+    readers: &Readers,
+    path: &str,
+    bytes: &[u8],
+    steps: &mut Steps<L>,
+) -> Mem<Option<Refused>>
+    ensures { (read : Reads) → AreReadings read →
+        IfOk result (λ refusal. refusal ≡ refusal_in (read path.now (Some bytes.now))) }
+{
+    let reading = readers.read_file(alloc, path, bytes, steps)?;
+    Ok(refusal_in(reading))
+}
+
+// Notes whether a file is refused.
+fn note_refusal(findings: &mut Findings, path: &str, refusal: Option<Refused>) -> Mem<()>
+    ensures text { OnOk result (findings.new.text.items ≡ findings.old.text.items ++ line_of path.now refusal) }
+    ensures refused { OnOk result (findings.new.any_refused ≡ (findings.old.any_refused || is_some refusal)) }
     ensures bytes { findings.new.bytes ≡ findings.old.bytes }
 {
-    if let Reading::Refused(refused) = reading {
-        put_refusal(&mut findings.text, path, refused)?;
+    if let Some(refused) = refusal {
+        put_refusal(&mut findings.text, path, &refused)?;
         findings.any_refused = true;
     }
     Ok(())
 }
 
-// Reads the file at a path, where it is one that is read, and notes what it reads as.
+// Reads the file at a path, where it is one that is read, and notes whether it is refused.
+#[tactic(auto, using(crate::proofs::FoundInFile::found_there))]
 fn check_file<S: Store, L: Ledger>(
     alloc: Global,
     store: &mut S,
@@ -101,9 +127,11 @@ fn check_file<S: Store, L: Ledger>(
 ) -> Result<(), Stop>
     requires { findings.old.bytes ≤ MOST_IN_ALL }
     ensures text { IsTrue S.tells_files → (read : Reads) → AreReadings read → OnOk result (
-        findings.new.text.items ≡ findings.old.text.items ++ line_at read (S.files store.old) path.now) }
+        let refusal = refusal_at read (S.files store.old) path.now in
+        findings.new.text.items ≡ findings.old.text.items ++ line_of path.now refusal) }
     ensures refused { IsTrue S.tells_files → (read : Reads) → AreReadings read → OnOk result (
-        findings.new.any_refused ≡ (findings.old.any_refused || is_refused read (S.files store.old) path.now)) }
+        let refusal = refusal_at read (S.files store.old) path.now in
+        findings.new.any_refused ≡ (findings.old.any_refused || is_some refusal)) }
     ensures bytes { IsTrue S.tells_files → OnOk result (
         findings.new.bytes ≡ findings.old.bytes + bytes_at (S.files store.old) path.now) }
     ensures in_limit { OnOk result (findings.new.bytes ≤ MOST_IN_ALL) }
@@ -124,22 +152,24 @@ fn check_file<S: Store, L: Ledger>(
     if all > MOST_IN_ALL {
         return Err(Stop::Limit(Limit::Bytes));
     }
-    let reading = readers.read_file(alloc, path, &bytes, steps)?;
-    note_reading(findings, path, &reading)?;
+    let refusal = refusal_of(alloc, readers, path, &bytes, steps)?;
+    note_refusal(findings, path, refusal)?;
     findings.bytes = all;
     Ok(())
 }
 
-// Reads the files at these paths and notes what they read as.
+// Reads the files at these paths and notes which are refused.
 fn check_files<S: Store, L: Ledger>(
     alloc: Global,
     store: &mut S,
-    readers: &Readers,
     findings: &mut Findings,
     paths: Vec<PathText>,
-    steps: &mut Steps<L>,
+    blank: Blank,
 ) -> Result<(), Stop>
-    requires { findings.old.bytes ≡ 0 }
+    requires none_yet { findings.old.bytes ≡ 0 }
+    requires name { blank.name ≡ L.name }
+    requires parts { blank.parts ≡ L.parts }
+    requires some_part { 0 < L.parts }
     ensures text { IsTrue S.tells_files → (read : Reads) → AreReadings read → OnOk result (
         findings.new.text.items ≡ findings.old.text.items ++ lines read (S.files store.old) paths.items) }
     ensures refused { IsTrue S.tells_files → (read : Reads) → AreReadings read → OnOk result (
@@ -152,13 +182,16 @@ fn check_files<S: Store, L: Ledger>(
     ensures never_writes { result ≢ Err Stop.WriteFault }
     ensures count { S.read_faults store.old ≤ S.read_faults store.new }
 {
+    let readers = Readers::new(alloc)?;
+    let mut steps = Steps::<L>::new(blank);
     for path in paths {
-        check_file(alloc, store, readers, findings, path.as_str(), steps)?;
+        check_file(alloc, store, &readers, findings, path.as_str(), &mut steps)?;
     }
     Ok(())
 }
 
 /// Reads each file that has a reader, and tells how many there are and which of them are refused.
+#[tactic(auto, using(crate::proofs::Answering::answered))]
 pub fn check_repository<S: Store>(alloc: Global, store: &mut S) -> Result<Done, Stop>
     ensures answer { IsTrue S.tells_files → (read : Reads) → AreReadings read →
         IsAnswered (answer read (S.files store.old) check) result (S.files store.new) }
@@ -171,14 +204,12 @@ pub fn check_repository<S: Store>(alloc: Global, store: &mut S) -> Result<Done, 
     if count > MOST_FILES {
         return Err(Stop::Limit(Limit::Files));
     }
-    let readers = Readers::new(alloc)?;
     let mut findings = Findings {
         text: count_line(alloc, count)?,
         any_refused: false,
         bytes: 0,
     };
-    let mut steps = Steps::<Brand>::new(Blank::new(1));
-    check_files(alloc, store, &readers, &mut findings, paths, &mut steps)?;
+    check_files::<S, Brand>(alloc, store, &mut findings, paths, Blank::new(1))?;
     Ok(Done {
         text: findings.text,
         any_refused: findings.any_refused,

@@ -21,6 +21,7 @@ pub enum Limit {
 
 impl Limit {
     /// What is told where the limit is passed.
+    #[tactic(auto, unfolding(crate::specs::Limits::limit_line))]
     pub fn line(self) -> &'static [u8]
         ensures { result.now ≡ limit_line self }
     {

@@ -23,8 +23,6 @@ mod rewrite;
 mod running;
 mod sources;
 mod stop;
-#[cfg(test)]
-mod tests;
 mod words;
 
 use crate::rewrite::rewrite;

@@ -1,5 +1,5 @@
 // The top call.
-ghost use Rattle.std.specs.Prelude.{◌≡◌, ◌≢◌, ◌≤◌, ◌⊎◌, ◌↔◌, ◌++◌, ◌×◌, IsTrue, Some, None, Ok, Err, IfSome, IsNone};
+ghost use Rattle.std.specs.Prelude.{◌≡◌, ◌≢◌, ◌≤◌, ◌⊎◌, ◌↔◌, ◌++◌, IsTrue, Some, None, Ok, Err, IfSome, IsNone};
 ghost use Rattle.std.specs.Prelude.{IsOk, OnOk, Result, map as map_list, string_bytes};
 ghost use Rattle.rw_host.specs.Files.{Rose};
 ghost use Rattle.rw_host.specs.Sink.{PutsPrefix};
@@ -35,6 +35,7 @@ fn tell<K: Sink>(out: &mut K, ended: Result<Done, Stop>) -> u8
     ensures front { IsTrue K.tells_bytes → result ≡ 7 →
         PutsPrefix (K.bytes_put out.old) (text_of ended) (K.bytes_put out.new) }
     ensures sink_fault { result ≡ 7 → Rose (K.faults out.old) (K.faults out.new) }
+    ensures not_usage { result ≢ 2 }
 {
     match ended {
         Ok(done) => {

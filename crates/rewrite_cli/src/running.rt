@@ -26,7 +26,7 @@ pub fn options_of(alloc: Global, old: &[u8], new: &[u8]) -> Mem<PropertiesChange
 }
 
 /// Renames the key in each properties file of the store.
-#[tactic(auto, using(crate::proofs::After::ran))]
+#[tactic(auto, using(crate::proofs::Answering::answered))]
 pub fn rename<S: Store>(
     alloc: Global,
     store: &mut S,

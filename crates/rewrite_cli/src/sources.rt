@@ -25,8 +25,8 @@ pub fn count_read(paths: &[PathText]) -> usize
     ensures { result ≡ count_read paths.now }
 {
     let mut count = 0;
-    for path in paths {
-        if is_read(path.as_str()) {
+    for at in 0..paths.len() {
+        if is_read(paths[at].as_str()) {
             count += 1;
         }
     }

@@ -1,5 +1,5 @@
 // The words of the command line.
-ghost use Rattle.std.specs.Prelude.{◌≡◌, map as map_list, string_bytes};
+ghost use Rattle.std.specs.Prelude.{◌≡◌, [], ◌∷◌, map as map_list, string_bytes};
 ghost use Rattle.std.specs.Option.{option_map};
 ghost use Rattle.rewrite_cli.specs.Words.{has_workers, is_check, is_number_to, is_worker_count, keys_of};
 
@@ -8,6 +8,7 @@ use itoa::Buffer;
 
 const MOST_WORKERS: u64 = 64;
 
+#[tactic(auto, using(crate::proofs::WorkerCounts::counting))]
 fn is_worker_count(word: &[u8]) -> bool
     ensures { result ≡ is_worker_count word.now }
 {
@@ -22,28 +23,53 @@ fn is_worker_count(word: &[u8]) -> bool
     false
 }
 
+#[tactic(auto, unfolding(crate::specs::Words::has_workers))]
 fn has_workers(word: &[u8]) -> bool
     ensures { result ≡ has_workers word.now }
 {
-    let size = b"--workers=".len().min(word.len());
-    is_same(&word[..size], b"--workers=") && is_worker_count(&word[size..])
+    if word.len() < 10 {
+        return false;
+    }
+    is_same(&word[..10], b"--workers=") && is_worker_count(&word[10..])
+}
+
+#[tactic(auto, unfolding(crate::specs::Words::is_check))]
+fn is_check_alone(command: &[u8]) -> bool
+    ensures { result ≡ is_check (command.now ∷ []) }
+{
+    is_same(command, b"check")
+}
+
+#[tactic(auto, unfolding(crate::specs::Words::is_check))]
+fn is_check_with(command: &[u8], option: &[u8]) -> bool
+    ensures { result ≡ is_check (command.now ∷ option.now ∷ []) }
+{
+    is_same(command, b"check") && has_workers(option)
+}
+
+#[tactic(auto, unfolding(crate::specs::Words::is_check))]
+fn is_check_with_value(command: &[u8], option: &[u8], value: &[u8]) -> bool
+    ensures { result ≡ is_check (command.now ∷ option.now ∷ value.now ∷ []) }
+{
+    is_same(command, b"check") && is_same(option, b"--workers") && is_worker_count(value)
 }
 
 /// Whether the words are those of `check`.
+#[tactic(auto, using(crate::proofs::CheckWords::counted))]
 pub fn is_check(words: &[String]) -> bool
     ensures { result ≡ is_check (map_list string_bytes words.now) }
 {
-    match words {
-        [command] => is_same(command.as_bytes(), b"check"),
-        [command, option] => is_same(command.as_bytes(), b"check")
-            && has_workers(option.as_bytes()),
-        [command, option, value] => {
-            is_same(command.as_bytes(), b"check")
-                && is_same(option.as_bytes(), b"--workers")
-                && is_worker_count(value.as_bytes())
-        }
-        _ => false,
+    if words.len() == 1 {
+        return is_check_alone(words[0].as_bytes());
     }
+    if words.len() == 2 {
+        return is_check_with(words[0].as_bytes(), words[1].as_bytes());
+    }
+    if words.len() == 3 {
+        let command = words[0].as_bytes();
+        return is_check_with_value(command, words[1].as_bytes(), words[2].as_bytes());
+    }
+    false
 }
 
 /// The old and the new key, where the words are those of a run.
