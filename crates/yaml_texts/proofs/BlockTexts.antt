@@ -1,13 +1,13 @@
 -- What the further lines of a block scalar say, a line further.
-use Rattle.std.proofs.Common.{◌≡◌, ℕ, ◌+◌, ◌-◌, ◌<◌, ◌≤◌, min, true, false, List, [], ◌∷◌, ◌++◌, length, take, drop, refl, sym, ◌∙◌, ap, subst, arith, append_assoc, append-nil}
-use Rattle.std.specs.Prelude.{◌&&◌, Bool}
-use Rattle.std.proofs.lemmas.Bool.{and_left, and_right, and_from, not-false}
+use Rattle.std.proofs.Common.{◌≡◌, ℕ, ◌+◌, ◌-◌, ◌<◌, ◌≤◌, min, true, false, List, [], ◌∷◌, ◌++◌, length, take, drop, refl, sym, ◌∙◌, ap, arith, append_assoc}
+use Rattle.std.specs.Prelude.{◌&&◌}
+use Rattle.std.proofs.lemmas.Bool.{and_left, and_right, not-false}
 use Rattle.std.proofs.lemmas.List.{drop_all, length-drop}
 use Rattle.rw_base.specs.NaturalLines.{Line, lines_of}
 use Rattle.yaml_lex.specs.Characters.{is_line_end, begins}
 use Rattle.yaml_lex.specs.Scalars.{in_line}
 use Rattle.yaml_lex.specs.BlockScalars.{is_blank_line, indentation}
-use Rattle.yaml_texts.specs.Texts.{further_lines, first_indentation, content_of, contents_of, blank_lines}
+use Rattle.yaml_texts.specs.Texts.{further_lines, first_indentation, contents_of, blank_lines}
 use Rattle.yaml_texts.specs.Steps.{IsNextLine}
 
 none_further : further_lines [] ≡ []

@@ -1,10 +1,10 @@
 -- The natural lines behind the first one, a line further.
-use Rattle.std.proofs.Common.{◌≡◌, ℕ, zero, suc, ◌+◌, ◌-◌, ◌<◌, ◌≤◌, Bool, true, false, List, [], ◌∷◌, length, take, drop, get_or}
+use Rattle.std.proofs.Common.{◌≡◌, ℕ, zero, suc, ◌+◌, ◌-◌, ◌<◌, ◌≤◌, true, false, List, [], ◌∷◌, length, take, drop, get_or}
 use Rattle.std.proofs.Common.{inl, inr, refl, sym, ◌∙◌, ap, subst, arith}
-use Rattle.std.specs.Prelude.{◌==◌, ◌||◌}
-use Rattle.std.proofs.lemmas.Bool.{cases_Bool, or_cases, or_parts, not-false, not-true, eqb-true}
-use Rattle.std.proofs.lemmas.List.{drop-drop, drop_all, length-drop}
-use Rattle.rw_base.specs.NaturalLines.{Line, lines_of, with_text, with_ending, begins_with_lf}
+use Rattle.std.specs.Prelude.{◌==◌}
+use Rattle.std.proofs.lemmas.Bool.{cases_Bool, or_cases, or_parts, not-false, not-true}
+use Rattle.std.proofs.lemmas.List.{drop-drop, length-drop}
+use Rattle.rw_base.specs.NaturalLines.{Line, lines_of, with_text, begins_with_lf}
 use Rattle.yaml_lex.specs.Characters.{is_line_end, begins}
 use Rattle.yaml_lex.specs.Scalars.{IsRun, in_line}
 use Rattle.yaml_lex.specs.BlockScalars.{ending_size}

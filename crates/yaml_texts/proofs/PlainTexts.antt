@@ -1,9 +1,9 @@
 -- Texts that are one plain scalar.
-use Rattle.std.proofs.Common.{◌≡◌, ℕ, zero, suc, ◌+◌, ◌-◌, ◌<◌, ◌≤◌, ◌⊎◌, Bool, true, false, List, [], ◌∷◌, ◌++◌, length, drop, get_or}
+use Rattle.std.proofs.Common.{◌≡◌, ℕ, zero, suc, ◌+◌, ◌-◌, ◌<◌, ◌≤◌, Bool, true, false, List, [], ◌∷◌, ◌++◌, length, drop, get_or}
 use Rattle.std.proofs.Common.{inl, inr, refl, sym, ◌∙◌, ap, subst, arith, append-nil}
 use Rattle.std.specs.Prelude.{not, ◌==◌, ◌&&◌, ◌||◌}
-use Rattle.std.proofs.lemmas.Bool.{cases_Bool, cases_lt, or_cases, or_parts, or_from, and_parts, and_from, and_left, and_right, not-true}
-use Rattle.std.proofs.lemmas.List.{length-append, drop_at, get_or_append_left, get_or-append-add}
+use Rattle.std.proofs.lemmas.Bool.{cases_Bool, cases_lt, or_cases, or_parts, and_parts, and_from, not-true}
+use Rattle.std.proofs.lemmas.List.{length-append, get_or_append_left, get_or-append-add}
 use Rattle.yaml_lex.specs.Characters.{is_line_end, is_blank, is_white, is_flow_sign, is_indicator, needs_more, begins, is_gap, is_colon_gap, is_key_end}
 use Rattle.yaml_lex.specs.Scalars.{begins_plain, ends_plain, ends_in_flow, IsPlain}
 use Rattle.yaml_texts.specs.Spelled.{goes_on, is_plain}
@@ -212,6 +212,6 @@ key_over [] e = refl
 key_over (b ∷ rest) e = elim (or_cases (is_colon_gap (b ∷ rest)) (is_blank b && is_key_end rest) e) [
   | inl colon ↦ first (ends_plain false (b ∷ rest)) (is_blank b && is_over false rest) (colon_ends b rest colon)
   | inr more ↦
-    let parts = and_parts (is_blank b) (is_key_end rest) more in
-    second (ends_plain false (b ∷ rest)) (is_blank b && is_over false rest) (and_from (is_blank b) (is_over false rest) parts.0 (key_over rest parts.1))
+      let parts = and_parts (is_blank b) (is_key_end rest) more in
+      second (ends_plain false (b ∷ rest)) (is_blank b && is_over false rest) (and_from (is_blank b) (is_over false rest) parts.0 (key_over rest parts.1))
 ]

@@ -1,12 +1,12 @@
 -- Texts in single quotes: they are quoted scalars, and say the text.
-use Rattle.std.proofs.Common.{◌≡◌, ℕ, zero, suc, ◌+◌, ◌-◌, ◌<◌, ◌≤◌, Bool, true, false, List, [], ◌∷◌, ◌++◌, length, take, drop, get_or}
+use Rattle.std.proofs.Common.{◌≡◌, ℕ, ◌+◌, ◌-◌, false, List, [], ◌∷◌, ◌++◌, length}
 use Rattle.std.proofs.Common.{inl, inr, refl, sym, ◌∙◌, ap, subst, arith, append_assoc}
-use Rattle.std.specs.Prelude.{Option, Some, None, nat_lt, ◌==◌, ◌&&◌, ◌||◌}
+use Rattle.std.specs.Prelude.{Option, Some, nat_lt, ◌==◌}
 use Rattle.std.proofs.lemmas.Bool.{cases_eq, ne_eqb, or_parts, ltb-false}
 use Rattle.std.proofs.lemmas.List.{length-append, take_at}
 use Rattle.yaml_lex.specs.Characters.{is_line_end, begins}
 use Rattle.yaml_lex.specs.Scalars.{Closes, closing, pair, char, is_pair, IsQuoted}
-use Rattle.yaml_texts.specs.Quoted.{Character, character_of, more_of, with_character, said_behind, inner, quoted_text}
+use Rattle.yaml_texts.specs.Quoted.{Character, character_of, more_of, with_character, said_behind, quoted_text}
 use Rattle.yaml_texts.specs.Spelled.{has_control, doubled, in_quotes}
 use Rattle.yaml_texts.proofs.Written.{once}
 
@@ -28,8 +28,8 @@ closes [] rest apart = subst (λ (d : List ℕ). Closes 39 (d ++ 39 ∷ rest) (l
 closes (b ∷ text) rest apart = elim (cases_eq b 39) [
   | inl quote ↦ subst (λ (d : List ℕ). Closes 39 (d ++ 39 ∷ rest) (length d + 1)) (sym (ap (λ n. doubled (n ∷ text)) quote ∙ two_quotes text)) (pair refl (closes text rest apart) (omega arith))
   | inr other ↦
-    let e = ne_eqb b 39 other in
-    subst (λ (d : List ℕ). Closes 39 (d ++ 39 ∷ rest) (length d + 1)) (sym (once b text e)) (char (other_byte b (doubled text ++ 39 ∷ rest) e) other (closes text rest apart) (omega arith))
+      let e = ne_eqb b 39 other in
+      subst (λ (d : List ℕ). Closes 39 (d ++ 39 ∷ rest) (length d + 1)) (sym (once b text e)) (char (other_byte b (doubled text ++ 39 ∷ rest) e) other (closes text rest apart) (omega arith))
 ]
 
 pub quoted_before : (text rest : List ℕ) → begins (λ c. c == 39) rest ≡ false → IsQuoted (in_quotes text ++ rest) (length (in_quotes text))
@@ -82,14 +82,14 @@ said_doubled (b ∷ text) none =
     let parts = or_parts (nat_lt b 32) (has_control text) none in
     elim (cases_eq b 39) [
       | inl quote ↦
-        ap (λ n. said_behind 39 0 (doubled (n ∷ text))) quote
-        ∙ (ap (said_behind 39 0) (two_quotes text)
-        ∙ (said_one 39 1 (39 ∷ doubled text) (quote_character (39 ∷ doubled text)) text (skip_one 39 (doubled text) ∙ said_doubled text parts.1)
-        ∙ ap (λ n. Some (n ∷ text)) (sym quote)))
+          ap (λ n. said_behind 39 0 (doubled (n ∷ text))) quote
+          ∙ (ap (said_behind 39 0) (two_quotes text)
+          ∙ (said_one 39 1 (39 ∷ doubled text) (quote_character (39 ∷ doubled text)) text (skip_one 39 (doubled text) ∙ said_doubled text parts.1)
+          ∙ ap (λ n. Some (n ∷ text)) (sym quote)))
       | inr other ↦
-        let e = ne_eqb b 39 other in
-        ap (said_behind 39 0) (once b text e)
-        ∙ said_one b 0 (doubled text) (plain_character b (doubled text) (no_end b parts.0) e) text (said_doubled text parts.1)
+          let e = ne_eqb b 39 other in
+          ap (said_behind 39 0) (once b text e)
+          ∙ said_one b 0 (doubled text) (plain_character b (doubled text) (no_end b parts.0) e) text (said_doubled text parts.1)
     ]
 
 pub quoted_says : (text : List ℕ) → has_control text ≡ false → quoted_text (in_quotes text) ≡ Some text

@@ -1,27 +1,26 @@
 -- A spelled text is one leaf that says the text.
-use Rattle.std.proofs.Common.{◌≡◌, ℕ, suc, ◌+◌, ◌-◌, ◌<◌, ◌≤◌, Bool, true, false, cond, List, [], ◌∷◌, ◌++◌, length, drop, get_or}
+use Rattle.std.proofs.Common.{◌≡◌, ℕ, Bool, true, false, cond, List, [], ◌∷◌, ◌++◌, length, drop}
 use Rattle.std.proofs.Common.{inl, inr, refl, sym, ◌∙◌, ap, subst, arith}
-use Rattle.std.specs.Prelude.{Option, Some, None, not, ◌==◌, ◌&&◌, ◌||◌, if◌then◌else◌}
+use Rattle.std.specs.Prelude.{Option, Some, None, not, ◌==◌, ◌&&◌, ◌||◌}
 use Rattle.std.proofs.lemmas.Bool.{cases_Bool, cases_eq, ne_eqb, or_parts, or_from, and_parts, and_left, and_right, not-true}
-use Rattle.std.proofs.lemmas.List.{length-append, drop_at}
+use Rattle.std.proofs.lemmas.List.{drop_at}
 use Rattle.std.proofs.lemmas.Option.{same_Some}
 use Rattle.yaml_lex.specs.declared.class.TheConstants.{KEY, SCALAR, FSCALAR, BLOCK}
 use Rattle.yaml_lex.specs.declared.context.Context.{Context}
-use Rattle.yaml_lex.specs.declared.context.Previous.{Previous}
 use Rattle.yaml_lex.specs.declared.context.Previous.TheVariants as previous
 use Rattle.yaml_lex.specs.declared.collections.Collection.{Collection}
 use Rattle.yaml_lex.specs.declared.form.LeafForm.{LeafForm}
 use Rattle.yaml_lex.specs.declared.form.LeafForm.TheVariants as form
-use Rattle.yaml_lex.specs.Characters.{is_line_end, is_blank, is_white, is_flow_sign, is_indicator, needs_more, is_name_mark, is_block_mark, is_quote, begins, is_gap, is_colon_gap, is_key_end}
+use Rattle.yaml_lex.specs.Characters.{is_line_end, is_blank, is_white, is_flow_sign, is_indicator, needs_more, is_name_mark, is_block_mark, is_quote, begins, is_gap, is_colon_gap}
 use Rattle.yaml_lex.specs.Contexts.{in_flow}
-use Rattle.yaml_lex.specs.Scalars.{begins_plain, ends_plain, ends_in_flow, IsPlain, IsQuoted}
+use Rattle.yaml_lex.specs.Scalars.{begins_plain, ends_plain}
 use Rattle.yaml_lex.specs.BlockScalars.{is_three, is_document_line}
 use Rattle.yaml_lex.specs.Leaves.{is_key, is_quoted, is_flow_colon, is_colon, is_dash, form_of, IsText, scalar_class, class_of, IsLeafPlace, IsNext}
 use Rattle.yaml_texts.specs.Quoted.{quoted_text}
 use Rattle.yaml_texts.specs.Texts.{scalar_text}
 use Rattle.yaml_texts.specs.Spelled.{has_control, goes_on, is_plain, in_quotes, written, spelled}
 use Rattle.yaml_texts.specs.Laws.{is_over, CanStand, ReadsBack, KeysReadBack, ValuesReadBack, FlowScalarsReadBack}
-use Rattle.yaml_texts.proofs.PlainTexts.{IsWhole, whole_of, IsGap, gap_of, plain_before, key_over}
+use Rattle.yaml_texts.proofs.PlainTexts.{IsWhole, whole_of, gap_of, plain_before, key_over}
 use Rattle.yaml_texts.proofs.QuotedTexts.{quoted_before, quoted_says}
 
 -- ---- which form
@@ -57,11 +56,11 @@ module _ (p : Context) (s : List ℕ) (stands : CanStand p s) where
   unfolding is_document_line
   no_marks = elim (cases_eq p.column 0) [
     | inl start ↦
-      let parts = or_parts (is_three 45 s) (is_three 46 s) (stands.no_mark start) in
-      (and_right (p.column == 0) (is_three 45 s) parts.0, and_right (p.column == 0) (is_three 46 s) parts.1)
+        let parts = or_parts (is_three 45 s) (is_three 46 s) (stands.no_mark start) in
+        (and_right (p.column == 0) (is_three 45 s) parts.0, and_right (p.column == 0) (is_three 46 s) parts.1)
     | inr behind ↦
-      let e = ne_eqb p.column 0 behind in
-      (and_left (p.column == 0) (is_three 45 s) e, and_left (p.column == 0) (is_three 46 s) e)
+        let e = ne_eqb p.column 0 behind in
+        (and_left (p.column == 0) (is_three 45 s) e, and_left (p.column == 0) (is_three 46 s) e)
   ]
 
 -- ---- plain
@@ -135,21 +134,21 @@ no_colon : (p : Context) (b : ℕ) (u rest : List ℕ) → p.previous ≡ previo
     → is_colon p (b ∷ (u ++ rest)) ≡ false
 no_colon p b u rest other h goes = elim (cases_Bool (b == 58)) [
   | inl colon ↦
-    let more : needs_more b ≡ true = last_true ((b == 45) || (b == 63)) (b == 58) colon in
-    let white = (more_still b u rest more h).1 in
-    let flow = flow_still b u rest colon more h goes in
-    and_right (b == 58) (is_key p.previous || is_flow_colon p (u ++ rest))
-    (or_from (is_key p.previous) (is_flow_colon p (u ++ rest)) (ap is_key other)
-        (and_right (in_flow p) (is_quoted p.previous || begins is_white (u ++ rest) || begins is_flow_sign (u ++ rest))
-            (or_from (is_quoted p.previous || begins is_white (u ++ rest)) (begins is_flow_sign (u ++ rest)) (or_from (is_quoted p.previous) (begins is_white (u ++ rest)) (ap is_quoted other) white) flow)))
+      let more : needs_more b ≡ true = last_true ((b == 45) || (b == 63)) (b == 58) colon in
+      let white = (more_still b u rest more h).1 in
+      let flow = flow_still b u rest colon more h goes in
+      and_right (b == 58) (is_key p.previous || is_flow_colon p (u ++ rest))
+      (or_from (is_key p.previous) (is_flow_colon p (u ++ rest)) (ap is_key other)
+      (and_right (in_flow p) (is_quoted p.previous || begins is_white (u ++ rest) || begins is_flow_sign (u ++ rest))
+      (or_from (is_quoted p.previous || begins is_white (u ++ rest)) (begins is_flow_sign (u ++ rest)) (or_from (is_quoted p.previous) (begins is_white (u ++ rest)) (ap is_quoted other) white) flow)))
   | inr none ↦ and_left (b == 58) (is_key p.previous || is_flow_colon p (u ++ rest)) none
 ]
 
 no_dash : (p : Context) (b : ℕ) (u rest : List ℕ) → (needs_more b && is_gap u) ≡ false → is_dash p (b ∷ (u ++ rest)) ≡ false
 no_dash p b u rest h = elim (cases_Bool (b == 45)) [
   | inl dash ↦
-    let more : needs_more b ≡ true = first_true ((b == 45) || (b == 63)) (b == 58) (first_true (b == 45) (b == 63) dash) in
-    and_right ((b == 45) && not (in_flow p)) (is_gap (u ++ rest)) (more_still b u rest more h).0
+      let more : needs_more b ≡ true = first_true ((b == 45) || (b == 63)) (b == 58) (first_true (b == 45) (b == 63) dash) in
+      and_right ((b == 45) && not (in_flow p)) (is_gap (u ++ rest)) (more_still b u rest more h).0
   | inr none ↦ and_left ((b == 45) && not (in_flow p)) (is_gap (u ++ rest)) (and_left (b == 45) (not (in_flow p)) none)
 ]
 
@@ -243,8 +242,8 @@ data IsWritten (text : List ℕ) : List ℕ → Type 0 where
 written_way : (text : List ℕ) → IsWritten text (written text)
 written_way text = elim (cases_Bool (is_plain false text && is_plain true text)) [
   | inl plain ↦
-    let parts = and_parts (is_plain false text) (is_plain true text) plain in
-    subst (λ (w : List ℕ). IsWritten text w) (ap (λ b. cond b text (in_quotes text)) (sym plain)) (as_is parts.0 parts.1)
+      let parts = and_parts (is_plain false text) (is_plain true text) plain in
+      subst (λ (w : List ℕ). IsWritten text w) (ap (λ b. cond b text (in_quotes text)) (sym plain)) (as_is parts.0 parts.1)
   | inr other ↦ subst (λ (w : List ℕ). IsWritten text w) (ap (λ b. cond b text (in_quotes text)) (sym other)) quoted
 ]
 
@@ -252,8 +251,8 @@ spelled_way : (text word : List ℕ) → spelled text ≡ Some word → (has_con
 spelled_way text word e = elim (cases_Bool (has_control text)) [
   | inl control ↦ absurd (let f : None ≡ Some word = ap (λ b. cond b None (Some (written text))) (sym control) ∙ e in cc)
   | inr none ↦
-    let f : Some (written text) ≡ Some word = ap (λ b. cond b None (Some (written text))) (sym none) ∙ e in
-    (none, subst (λ (w : List ℕ). IsWritten text w) (same_Some (written text) word f) (written_way text))
+      let f : Some (written text) ≡ Some word = ap (λ b. cond b None (Some (written text))) (sym none) ∙ e in
+      (none, subst (λ (w : List ℕ). IsWritten text w) (same_Some (written text) word f) (written_way text))
 ]
 
 says_itself : (class : ℕ) (column : Option ℕ) (text rest : List ℕ) → (class == BLOCK) ≡ false → begins is_quote text ≡ false → scalar_text class column text rest ≡ Some text
@@ -269,9 +268,10 @@ in_both false text block flow = block
 reads_way : (p : Context) (os : List Collection) (rest text word : List ℕ) → has_control text ≡ false → IsWritten text word → CanStand p (word ++ rest) → is_over (in_flow p) rest ≡ true
     → (class : ℕ) → (class == BLOCK) ≡ false → IsNext p os (word ++ rest) (scalar_class p rest) (length word) × ((column : Option ℕ) → scalar_text class column word rest ≡ Some text)
 reads_way p os rest text _ none (as_is block flow) stands over class other =
-    let whole = whole_of true text flow in
-    (plain_leaf p os text rest stands whole (whole_of (in_flow p) text (in_both (in_flow p) text block flow)) over,
-    λ column. says_itself class column text rest other (plain_first text whole.begins))
+    let whole = whole_of true text flow in (
+      plain_leaf p os text rest stands whole (whole_of (in_flow p) text (in_both (in_flow p) text block flow)) over,
+      λ column. says_itself class column text rest other (plain_first text whole.begins),
+    )
 reads_way p os rest text _ none quoted stands over class other =
     (quoted_leaf p os text rest over, λ column. says_quoted class column text rest other ∙ quoted_says text none)
 

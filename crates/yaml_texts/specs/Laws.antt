@@ -12,9 +12,10 @@ use Rattle.yaml_lex.specs.Leaves.{IsNext}
 use Rattle.yaml_texts.specs.Texts.{scalar_text}
 use Rattle.yaml_texts.specs.Spelled.{is_plain, spelled}
 
--- The test of a whole text is that of the leaves: such a text is a plain scalar that nothing of it is left behind.
+-- The test of a whole text says that the definition of leaves cuts all of it as one plain scalar.
 abbrev pub PlainTextsArePlainScalars : Type 0
-PlainTextsArePlainScalars = (flow : Bool) (text : List ℕ) → (is_plain flow text ≡ true) ↔ IsPlain flow text (length text)
+PlainTextsArePlainScalars =
+    (flow : Bool) (text : List ℕ) → (is_plain flow text ≡ true) ↔ IsPlain flow text (length text)
 
 -- ---- what is spelled reads back
 
@@ -23,8 +24,8 @@ unfoldable pub is_over : Bool → List ℕ → Bool
 is_over flow [] = true
 is_over flow (b ∷ rest) = ends_plain flow (b ∷ rest) || (is_blank b && is_over flow rest)
 
--- A key or a value can stand here, before a text: the leaf before is no key and no quoted scalar in flow context, which
--- a `:` would follow, and no `---` or `...` stands at the start of a line.
+-- A key or a value can stand here, with which a text begins: the leaf before is no key and no quoted scalar in flow
+-- context, behind which a `:` is due, and at the start of a line no `---` or `...` parts documents here.
 pub record CanStand (p : Context) (s : List ℕ) : Type 0 where
   pub previous : p.previous ≡ previous.Other
   pub no_mark : p.column ≡ 0 → is_document_line s ≡ false

@@ -1,5 +1,5 @@
 -- What the small functions of the crate give. No public clause stands on this.
-use Rattle.std.specs.Prelude.{◌≡◌, ℕ, ◌+◌, ◌-◌, ◌<◌, ◌≤◌, true, false, List, [], ◌∷◌, take, drop, length, encode_utf8}
+use Rattle.std.specs.Prelude.{◌≡◌, ℕ, ◌-◌, ◌<◌, ◌≤◌, false, List, [], ◌∷◌, take, drop, length, encode_utf8}
 use Rattle.rw_base.specs.NaturalLines.{Line}
 use Rattle.yaml_lex.specs.Characters.{is_line_end, begins}
 use Rattle.yaml_lex.specs.Scalars.{in_line}

@@ -53,8 +53,8 @@ abbrev pub block_text : Option ℕ → List ℕ → List ℕ → Option (List �
 block_text column text rest =
     if begins (λ b. b == 124) text
     then (let lines = further_lines text in
-        let content = contents_of (lost_spaces column (digit_of text) lines) lines in
-        Some (chomped (slice_index text 1) content (blank_lines (further_lines rest))))
+    let content = contents_of (lost_spaces column (digit_of text) lines) lines in
+    Some (chomped (slice_index text 1) content (blank_lines (further_lines rest))))
     else None
 
 -- ---- all scalars

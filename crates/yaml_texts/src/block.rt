@@ -130,7 +130,12 @@ fn chomp_sign(text: &[u8]) -> u8
 
 /// What a block scalar says before the rest of its file, where the innermost collection has this column, or none where
 /// it is folded.
-pub fn block_text(alloc: Global, column: Option<u32>, text: &[u8], rest: &[u8]) -> Mem<Option<Vec<u8>>>
+pub fn block_text(
+    alloc: Global,
+    column: Option<u32>,
+    text: &[u8],
+    rest: &[u8],
+) -> Mem<Option<Vec<u8>>>
     ensures { IfOk result (λ r. MatchOption r (block_text column text.now rest.now ≡ None)
         (λ said. block_text column text.now rest.now ≡ Some said.items)) }
 {

@@ -16,7 +16,7 @@ pub loop-at-preserved : goal.loop-at-preserved
 loop-at-preserved c =
     let next = c.next_line-from.ensures in
     let more = counted c.args.text.now c.loop-at.at c.next_line-from.result.0 c.next_line-from.result.1 next _ refl
-        (sym c.is_blank_line.ensures ∙ c.if-not-is_blank_line.false) (omega (arith, next.inside, c.if-to-text.false)) in
+    (sym c.is_blank_line.ensures ∙ c.if-not-is_blank_line.false) (omega (arith, next.inside, c.if-to-text.false)) in
     record {
       ends = next.ends;
       few = omega (arith, next.further, next.order, c.loop-at.invariant.few);

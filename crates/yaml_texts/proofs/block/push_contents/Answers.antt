@@ -1,4 +1,4 @@
-use Rattle.std.proofs.Common.{List, ℕ, ◌++◌, sym, ◌∙◌, ap, append-nil}
+use Rattle.std.proofs.Common.{List, ◌++◌, sym, ◌∙◌, ap, append-nil}
 use Rattle.rw_base.specs.NaturalLines.{Line}
 use Rattle.yaml_texts.specs.Texts.{contents_of}
 use Rattle.yaml_texts.proofs.FurtherLines.{further_run}

@@ -7,11 +7,11 @@ pub loop-b-preserved : goal.loop-b-preserved
 loop-b-preserved c =
     elim c.if-b-eq39.branch [
       | then-b-eq39+in_ok-push-2 w ↦
-        let step = doubled_quote c.loop-b.out.items c.args.text.now c.loop-b.b-index (omega arith) w.if-b-eq39.true in
-        cc (step, c.loop-b.invariant, w.out-is, w.in_ok-push-2.ensures.items, c.in_ok-push-3.ensures.items)
+          let step = doubled_quote c.loop-b.out.items c.args.text.now c.loop-b.b-index (omega arith) w.if-b-eq39.true in
+          cc (step, c.loop-b.invariant, w.out-is, w.in_ok-push-2.ensures.items, c.in_ok-push-3.ensures.items)
       | else-b-eq39 w ↦
-        let step = doubled_other c.loop-b.out.items c.args.text.now c.loop-b.b-index (omega arith) w.if-b-eq39.false in
-        cc (step, c.loop-b.invariant, w.out-is, c.in_ok-push-3.ensures.items)
+          let step = doubled_other c.loop-b.out.items c.args.text.now c.loop-b.b-index (omega arith) w.if-b-eq39.false in
+          cc (step, c.loop-b.invariant, w.out-is, c.in_ok-push-3.ensures.items)
     ]
 
 pub returns : goal.returns
