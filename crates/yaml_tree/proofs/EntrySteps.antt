@@ -1,6 +1,7 @@
 -- The entries of the parts that are left, one part further.
-use Rattle.std.proofs.Common.{◌≡◌, ℕ, zero, suc, ◌+◌, ◌<◌, ◌≤◌, Bool, true, false, List, [], ◌∷◌, ◌++◌, length, get_or, drop}
-use Rattle.std.proofs.Common.{refl, sym, ap, ◌∙◌, arith, append_assoc, append-nil}
+use Rattle.std.proofs.Common.{◌≡◌, ℕ, zero, suc, ◌+◌, ◌<◌, ◌≤◌, Bool}
+use Rattle.std.proofs.Common.{true, false, List, [], ◌∷◌, ◌++◌, length, get_or, drop}
+use Rattle.std.proofs.Common.{refl, sym, ap, ◌∙◌, append_assoc, append-nil}
 use Rattle.std.specs.Prelude.{Some, None, ◌==◌, ◌&&◌, if◌then◌else◌}
 use Rattle.rw_base.specs.declared.tree.NodeId.{NodeId}
 use Rattle.rw_base.specs.declared.tree.NodeRow.{NodeRow}
@@ -46,7 +47,8 @@ pub node_whole : (rows : List NodeRow) (ps : List Part) (kids : Numbered) → ki
     → behind k kids ≡ node m.0 (kind_of rows m.0) (kids_of rows m.0) (behind (k + 1) kids)
 node_whole rows ps kids same k d m lt e =
     node_behind rows ps kids same k d m lt e
-    ∙ ap (λ (g : Numbered). node m.0 (kind_of rows m.0) (kids_of rows m.0) g) (sym (behind_here rows ps kids same (k + 1)))
+    ∙ ap (λ (g : Numbered). node m.0 (kind_of rows m.0) (kids_of rows m.0) g) (sym (behind_here rows ps kids same (k
+    + 1)))
 
 pub below_at : (count n : ℕ) (ps : List Part) (k : ℕ) → AreBelow count n ps → AreBelow count n (drop k ps)
 below_at count n ps zero b = b

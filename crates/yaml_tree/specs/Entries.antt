@@ -1,5 +1,6 @@
--- The entries of mappings, over plain trees.
-use Rattle.std.specs.Prelude.{ℕ, zero, suc, ◌==◌, ◌&&◌, Bool, true, false, List, [], ◌∷◌, ◌++◌, Option, Some, None}
+-- The entries of mappings, over trees as plain data: the pairs of key and value of block mappings (YAML 1.2, chapter
+-- 8.2.2), and in braces (7.4.2) the items that have a colon and one scalar as their key.
+use Rattle.std.specs.Prelude.{ℕ, zero, suc, ◌==◌, ◌&&◌, Bool, false, List, [], ◌∷◌, ◌++◌, Option, Some, None}
 use Rattle.std.specs.Prelude.{if◌then◌else◌}
 use Rattle.rw_base.specs.declared.tree.NodeId.{NodeId}
 use Rattle.rw_base.specs.Trees.{Numbered, none, leaf, node}

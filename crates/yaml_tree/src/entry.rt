@@ -52,8 +52,8 @@ fn node_part(tree: &Tree, n: NodeId, k: usize) -> Option<NodeId>
     requires { n.0 < length tree.now.nodes }
     ensures node { result ≡ node_first (behind k (kids_of tree.now.nodes n.0)) }
     ensures below { IfSome result (λ m. m.0 < n.0) }
-    ensures trees { let nodes = tree.now.nodes in IfSome result (λ m.
-        behind k (kids_of nodes n.0) ≡ node m.0 (kind_of nodes m.0) (kids_of nodes m.0) (behind (k + 1) (kids_of nodes n.0))) }
+    ensures trees { let nodes = tree.now.nodes in let kids = kids_of nodes n.0 in IfSome result (λ m.
+        behind k kids ≡ node m.0 (kind_of nodes m.0) (kids_of nodes m.0) (behind (k + 1) kids)) }
 {
     let parts = tree.parts(n);
     if k >= parts.len() {

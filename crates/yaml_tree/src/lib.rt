@@ -8,13 +8,15 @@
 //! }
 //! ```
 //!
-//! `read` gives what comes of a file by the definition `IsYamlOutcome`: a tree (clause `tree`) over the whole file
-//! (`whole`), whose nodes have the kinds of `Kind`, or the place and the cause of a refusal (`refused`). One thing
-//! alone comes of a file (`readings_are_one`). `entries` gives `entries_of` of a tree, each entry once and in the order
-//! of their keys.
+//! What comes of a file by the definition `IsYamlOutcome` is what `YamlReader::read` answers: a tree (clause `tree`)
+//! over the whole file (`whole`), or the place and the cause of a refusal (`refused`). One thing alone comes of a file
+//! (the law `readings_are_one`). The nodes of a tree are of the kinds `Kind`, one for each rule of the table in
+//! src/table.rt, which reads like a grammar. `entries` gives the entries of all mappings, of block and of flow style,
+//! each once and in the order of their keys (`entries_of`).
 //!
-//! The definitions in specs/, in this order: `Reading` says what comes of a file, by the leaves of `yaml_lex` and the
-//! rules of the table in src/table.rt, which reads like a grammar. `Entries` finds entries in plain trees.
+//! The definitions in specs/, in this order: `Reading` says what comes of a file, by the leaves of `yaml_lex`, the
+//! table, and `rw_grammar`'s reading by a table. `Entries` says which nodes of a tree are entries, over trees as plain
+//! data.
 #![tactic(auto)]
 
 mod entry;

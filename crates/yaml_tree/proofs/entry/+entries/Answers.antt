@@ -1,6 +1,6 @@
-use Rattle.std.proofs.Common.{◌≡◌, ◌+◌, ◌++◌, ◌∙◌, sym, ap, length, drop, arith}
+use Rattle.std.proofs.Common.{◌++◌, ◌∙◌, ap, length}
 use Rattle.rw_base.specs.Arena.{kind_of}
-use Rattle.rw_base.specs.Laid.{kids_of, forest_of}
+use Rattle.rw_base.specs.Laid.{kids_of}
 use Rattle.rw_base.specs.PartLaws.{below_next}
 use Rattle.rw_grammar.specs.Results.{class_in}
 use Rattle.yaml_tree.specs.Entries.{own_entry, is_flow_mapping, entries_in}
@@ -16,14 +16,17 @@ push_below-loop-part-preserved t c =
     let ps = c.parts-parts.result.now in
     let k = c.loop-part.part-index in
     let all = c.args.out.now.items ++ entries_in cl b (kids_of rows c.args.n.0) in
-    let below = below_next (length c.args.tree.now.leaves) c.args.n.0 ps k c.loop-part.invariant.below c.loop-part-test.true in
+    let below = below_next (length c.args.tree.now.leaves) c.args.n.0 ps k c.loop-part.invariant.below
+    c.loop-part-test.true in
     elim c.match-part.branch [
       | push_below-in-Leaf w ↦ record {
-        same = rw w.out-is (entries_leaf cl b rows ps all c.loop-part.out.items k _ c.loop-part-test.true _ w.in-Leaf.is c.loop-part.invariant.same);
+        same = rw w.out-is (entries_leaf cl b rows ps all c.loop-part.out.items k _ c.loop-part-test.true _
+            w.in-Leaf.is c.loop-part.invariant.same);
         below = below;
       }
       | push_below-in-Node+in_ok-push_node-in-Node w ↦ record {
-        same = rw w.out-is (entries_node cl b rows ps all c.loop-part.out.items k _ c.loop-part-test.true _ _ w.in-Node.is w.in_ok-push_node-in-Node.ensures c.loop-part.invariant.same);
+        same = rw w.out-is (entries_node cl b rows ps all c.loop-part.out.items k _ c.loop-part-test.true _ _
+            w.in-Node.is w.in_ok-push_node-in-Node.ensures c.loop-part.invariant.same);
         below = below;
       }
     ]

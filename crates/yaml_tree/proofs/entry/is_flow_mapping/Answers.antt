@@ -1,4 +1,4 @@
-use Rattle.std.proofs.Common.{◌≡◌, sym, ap, ◌∙◌}
+use Rattle.std.proofs.Common.{sym, ap, ◌∙◌}
 use Rattle.rw_base.specs.declared.tree.Leaf.{Leaf}
 use Rattle.rw_base.specs.Arena.{kind_of}
 use Rattle.rw_base.specs.Laid.{kids_of}
@@ -9,7 +9,8 @@ use Rattle.yaml_tree.proofs.entry.is_flow_mapping.Goals as goal
 pub returns-in-None : goal.returns-in-None
 returns-in-None c =
     let rows = c.args.tree.now.nodes in
-    flow_none (class_in c.args.tree.now.leaves) (kind_of rows c.args.n.0) (kids_of rows c.args.n.0) c.in-None.ensures.leaf
+    flow_none (class_in c.args.tree.now.leaves) (kind_of rows c.args.n.0) (kids_of rows c.args.n.0)
+    c.in-None.ensures.leaf
 
 pub returns-in-Some : goal.returns-in-Some
 returns-in-Some c =

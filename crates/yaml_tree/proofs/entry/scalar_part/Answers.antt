@@ -1,4 +1,4 @@
-use Rattle.std.proofs.Common.{◌≡◌, ap}
+use Rattle.std.proofs.Common.{ap}
 use Rattle.rw_base.specs.declared.tree.Leaf.{Leaf}
 use Rattle.rw_base.specs.Laid.{kids_of}
 use Rattle.rw_grammar.specs.Results.{class_in}
@@ -7,10 +7,12 @@ use Rattle.yaml_tree.proofs.entry.scalar_part.Goals as goal
 
 pub returns-then-leaf-eq-FSCALAR : goal.returns-then-leaf-eq-FSCALAR
 returns-then-leaf-eq-FSCALAR c =
-    scalar_here (class_in c.args.tree.now.leaves) (kids_of c.args.tree.now.nodes c.args.n.0) c.in-Some.i c.leaf.result.class
+    scalar_here (class_in c.args.tree.now.leaves) (kids_of c.args.tree.now.nodes c.args.n.0) c.in-Some.i
+    c.leaf.result.class
     c.in-Some.ensures.leaf (ap (λ (l : Leaf). l.class) c.leaf.ensures.leaf) c.if-leaf-eq-FSCALAR.true
 
 pub returns-else-leaf-eq-FSCALAR : goal.returns-else-leaf-eq-FSCALAR
 returns-else-leaf-eq-FSCALAR c =
-    scalar_other (class_in c.args.tree.now.leaves) (kids_of c.args.tree.now.nodes c.args.n.0) c.in-Some.i c.leaf.result.class
+    scalar_other (class_in c.args.tree.now.leaves) (kids_of c.args.tree.now.nodes c.args.n.0) c.in-Some.i
+    c.leaf.result.class
     c.in-Some.ensures.leaf (ap (λ (l : Leaf). l.class) c.leaf.ensures.leaf) c.if-leaf-eq-FSCALAR.false

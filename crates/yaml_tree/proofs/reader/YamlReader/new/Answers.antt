@@ -16,6 +16,7 @@ unreachable-requires c =
     let rule = c.in-Err-Wrong.field-0-1 in
     let rules = all_parts c.in_ok-shapes.field-0 in
     let same : rules ≡ yaml_rules = c.in_ok-shapes.ensures.parts ∙ are_spelled in
-    let sound : IsSound rules = subst IsSound (sym same) (c.closed_rows_show_a_sound_table.ensures rows yaml_rules closed) in
+    let sound : IsSound rules = subst IsSound (sym same) (c.closed_rows_show_a_sound_table.ensures rows yaml_rules
+    closed) in
     let least = c.checked.ensures.wrong number rule (c.in-Err-Wrong.is ∙ ap Err c.in-Err-Wrong.field-0-is) in
     sound number rule least.there least.fault
