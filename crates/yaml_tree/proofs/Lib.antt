@@ -1,3 +1,6 @@
 pub mod Rows
 pub mod Closed
 pub mod EntrySteps
+pub mod PathFronts
+pub mod PathNames
+pub mod PathSteps

@@ -1,2 +1,4 @@
 pub mod Reading
 pub mod Entries
+pub mod KeyPaths
+pub mod PathReading

@@ -3,6 +3,7 @@ ghost use Rattle.std.specs.Prelude.{◌≡◌, ℕ, List, Result};
 ghost use Rattle.rw_base.specs.declared.place.Refused.{Refused};
 ghost use Rattle.rw_base.specs.Arena.{Arena};
 ghost use Rattle.yaml_tree.specs.Reading.{IsYamlOutcome};
+ghost use Rattle.yaml_tree.specs.KeyPaths.{KeyPathsAreOne};
 
 use rw_grammar::closed_rows_show_a_sound_table;
 use yaml_lex::leaves_are_one;
@@ -14,3 +15,8 @@ pub fn readings_are_one()
     closed_rows_show_a_sound_table();
     leaves_are_one();
 }
+
+/// A text spells one key path at most.
+pub fn key_paths_are_one()
+    ensures { KeyPathsAreOne }
+{}

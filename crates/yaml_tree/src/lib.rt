@@ -1,4 +1,5 @@
-//! YAML files as lossless trees, in a subset of YAML 1.2, and the entries of their mappings.
+//! YAML files as lossless trees, in a subset of YAML 1.2, the entries of their mappings, and key paths, which name
+//! entries.
 //!
 //! ```text
 //! let reader = YamlReader::new(alloc)?;
@@ -6,6 +7,8 @@
 //! for entry in entries(alloc, &tree)?.iter() {
 //!     let key = tree.text(bytes, entry.key_leaf);
 //! }
+//! let path = KeyPath::read(alloc, b"$.jobs.*.steps[*].uses")?;
+//! // its steps are the name jobs, any name, the name steps, any item, and the name uses
 //! ```
 //!
 //! What comes of a file by the definition `IsYamlOutcome` is what `YamlReader::read` answers: a tree (clause `tree`)
@@ -14,19 +17,26 @@
 //! src/table.rt, which reads like a grammar. `entries` gives the entries of all mappings, of block and of flow style,
 //! each once and in the order of their keys (`entries_of`).
 //!
+//! `KeyPath::read` gives the steps that a text spells (clause `path`), or the byte behind the longest front of the text
+//! that begins some key path, and then the text is none (`fault`). A text spells one key path at most (the law
+//! `key_paths_are_one`). `KeyPath::steps` gives the steps.
+//!
 //! The definitions in specs/, in this order: `Reading` says what comes of a file, by the leaves of `yaml_lex`, the
 //! table, and `rw_grammar`'s reading by a table. `Entries` says which nodes of a tree are entries, over trees as plain
-//! data.
+//! data. `KeyPaths` is the grammar of key paths. `PathReading` is of the small functions that read them alone, and no
+//! public clause cites it.
 #![tactic(auto)]
 
 mod entry;
+mod key_path;
 mod kind;
 mod laws;
 mod reader;
 mod table;
 
 pub use entry::{EntryView, entries};
+pub use key_path::{KeyPath, PathFault, PathStep};
 pub use kind::Kind;
-pub use laws::readings_are_one;
+pub use laws::{key_paths_are_one, readings_are_one};
 pub use reader::{STREAM, YamlReader};
 pub use table::YAML;
