@@ -15,7 +15,7 @@ use Rattle.yaml_tree.specs.declared.entry.EntryView.{EntryView}
 use Rattle.yaml_tree.specs.Entries.{behind, leaf_first, node_first, own_entry, is_flow_mapping, entries_in}
 use Rattle.yaml_tree.specs.Entries.{node_entries, has_class, of_class, lone_scalar}
 use Rattle.yaml_tree.specs.declared.entry.TheConstants.{FLOW, FCONTENT}
-use Rattle.yaml_lex.specs.declared.class.TheConstants.{BRACE_OPEN, FSCALAR}
+use Rattle.yaml_lex.specs.declared.class.TheConstants.{FSCALAR}
 use Rattle.std.proofs.lemmas.Bool.{ne_eqb}
 
 -- ---- parts by their positions
@@ -59,19 +59,20 @@ below_at count n (part.Node m ∷ ps) (suc k) b = below_at count n ps k b.1
 -- ---- what a node is
 
 module _ (class : ℕ → ℕ) where
-  pub flow_none : (kind : ℕ) (kids : Numbered) → None ≡ leaf_first kids → false ≡ is_flow_mapping class kind kids
-  flow_none kind kids e = by_test (kind == FLOW) ∙ ap (λ o. (kind == FLOW) && has_class class BRACE_OPEN o) e
+  pub flow_none : (sign kind : ℕ) (kids : Numbered) → None ≡ leaf_first kids
+      → false ≡ ((kind == FLOW) && has_class class sign (leaf_first kids))
+  flow_none sign kind kids e = by_test (kind == FLOW) ∙ ap (λ o. (kind == FLOW) && has_class class sign o) e
     where
       by_test : (x : Bool) → false ≡ (x && false)
       by_test true = refl
       by_test false = refl
 
-  pub flow_some : (kind : ℕ) (kids : Numbered) (i x : ℕ) → kind ≡ FLOW → Some i ≡ leaf_first kids → x ≡ class i
-      → (x == BRACE_OPEN) ≡ is_flow_mapping class kind kids
-  flow_some kind kids i x k e p =
-      ap (λ y. y == BRACE_OPEN) p
-      ∙ (ap (λ o. has_class class BRACE_OPEN o) e
-      ∙ ap (λ y. (y == FLOW) && has_class class BRACE_OPEN (leaf_first kids)) (sym k))
+  pub flow_some : (sign kind : ℕ) (kids : Numbered) (i x : ℕ) → kind ≡ FLOW → Some i ≡ leaf_first kids → x ≡ class i
+      → (x == sign) ≡ ((kind == FLOW) && has_class class sign (leaf_first kids))
+  flow_some sign kind kids i x k e p =
+      ap (λ y. y == sign) p
+      ∙ (ap (λ o. has_class class sign o) e
+      ∙ ap (λ y. (y == FLOW) && has_class class sign (leaf_first kids)) (sym k))
 
   pub scalar_here : (kids : Numbered) (i x : ℕ) → Some i ≡ leaf_first kids → x ≡ class i → x ≡ FSCALAR
       → Some i ≡ of_class class FSCALAR (leaf_first kids)

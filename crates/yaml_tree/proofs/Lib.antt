@@ -4,3 +4,4 @@ pub mod EntrySteps
 pub mod PathFronts
 pub mod PathNames
 pub mod PathSteps
+pub mod FoundSteps

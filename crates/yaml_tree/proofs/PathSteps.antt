@@ -1,6 +1,8 @@
 -- How the reading of a key path goes on, and where it stops.
-use Rattle.std.proofs.Common.{◌≡◌, ℕ, zero, suc, ◌+◌, ◌<◌, ◌≤◌, inl, inr, List, [], ◌∷◌, ◌++◌, length, get_or, take, drop}
-use Rattle.std.proofs.Common.{refl, sym, ap, subst, ◌∙◌, arith, append_assoc, append-nil, length-append, length-drop, length-take-le}
+use Rattle.std.proofs.Common.{◌≡◌, ℕ, zero, suc, ◌+◌, ◌<◌, ◌≤◌, inl}
+use Rattle.std.proofs.Common.{inr, List, [], ◌∷◌, ◌++◌, length, get_or, take, drop}
+use Rattle.std.proofs.Common.{refl, sym, ap, subst, ◌∙◌}
+use Rattle.std.proofs.Common.{arith, append_assoc, append-nil, length-append, length-drop, length-take-le}
 use Rattle.std.proofs.Common.{take-append-drop}
 use Rattle.std.specs.Prelude.{Some, None, ◌==◌, if◌then◌else◌}
 use Rattle.std.proofs.lemmas.Bool.{cases_eq, eq-eqb, ne_eqb, cond-true, cond-false}
@@ -10,7 +12,8 @@ use Rattle.yaml_tree.specs.declared.key_path.PathStep.{PathStep}
 use Rattle.yaml_tree.specs.declared.key_path.PathStep.TheVariants.{AnyName, AnyItem}
 use Rattle.yaml_tree.specs.declared.key_path.TheConstants.{ITEMS}
 use Rattle.yaml_tree.specs.KeyPaths.{AreNames, last, IsKeyPath, plain, rooted, rooted_dot, IsWrongAt}
-use Rattle.yaml_tree.specs.PathReading.{run_size, name_size, step_of, start_size, common, IsBehind, ended, dot, items, GoesOn}
+use Rattle.yaml_tree.specs.PathReading.{run_size, name_size, step_of, start_size, common}
+use Rattle.yaml_tree.specs.PathReading.{IsBehind, ended, dot, items, GoesOn}
 use Rattle.yaml_tree.proofs.PathFronts.{first, lifted, wrong_at_once, behind_word}
 use Rattle.yaml_tree.proofs.PathNames.{is_name, same_size, same_start, parted, joined, dollar_ends, dot_ends, run_none}
 
@@ -263,7 +266,8 @@ common_end w s i le = ap (common (drop i w)) (drop_all i s le) ∙ nothing (drop
 
 both : (w s : List ℕ) (i : ℕ) → i < length w → i < length s
     → common (drop i w) (drop i s) ≡ common (get_or w i 0 ∷ drop (i + 1) w) (get_or s i 0 ∷ drop (i + 1) s)
-both w s i a b = ap (λ x. common x (drop i s)) (drop_more w i 0 a) ∙ ap (common (get_or w i 0 ∷ drop (i + 1) w)) (drop_more s i 0 b)
+both w s i a b = ap (λ x. common x (drop i s)) (drop_more w i 0 a) ∙ ap (common (get_or w i 0 ∷ drop (i + 1) w))
+    (drop_more s i 0 b)
 
 pub common_unlike : (w s : List ℕ) (i : ℕ) → i < length w → i < length s → (get_or w i 0 ≡ get_or s i 0 → ⊥)
     → common (drop i w) (drop i s) ≡ 0

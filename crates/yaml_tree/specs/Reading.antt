@@ -14,7 +14,7 @@ use Rattle.yaml_tree.specs.declared.reader.TheConstants.{STREAM}
 unfoldable pub yaml_rules : List Parts
 yaml_rules = parts_spelled YAML
 
--- A file is cut into its leaves, and these are derived by the rule of a whole file: what comes of it is the tree, or the
--- place and the cause of a refusal, as rw_grammar says for any language.
+-- A file is cut into its leaves, and these are derived by the rule of a whole file: what comes of it is the tree, or
+-- the place and the cause of a refusal, as rw_grammar says for any language.
 abbrev pub IsYamlOutcome : List ℕ → Result Arena Refused → Type 0
 IsYamlOutcome bytes outcome = IsRead (AreYamlLeaves bytes) yaml_rules STREAM bytes outcome

@@ -15,7 +15,7 @@ use yaml_lex::class::{BRACE_OPEN, FSCALAR};
 
 const ENTRY: u16 = Kind::Entry as u16;
 
-const FLOW: u16 = Kind::Flow as u16;
+pub(crate) const FLOW: u16 = Kind::Flow as u16;
 
 const FITEM: u16 = Kind::FItem as u16;
 
@@ -32,7 +32,7 @@ pub struct EntryView {
 }
 
 // The part of a node at a position, if it is a leaf.
-fn leaf_part(tree: &Tree, n: NodeId, k: usize) -> Option<u32>
+pub(crate) fn leaf_part(tree: &Tree, n: NodeId, k: usize) -> Option<u32>
     requires { n.0 < length tree.now.nodes }
     ensures leaf { result ≡ leaf_first (behind k (kids_of tree.now.nodes n.0)) }
     ensures inside { IfSome result (λ i. i < length tree.now.leaves) }
@@ -48,7 +48,7 @@ fn leaf_part(tree: &Tree, n: NodeId, k: usize) -> Option<u32>
 }
 
 // The part of a node at a position, if it is a node.
-fn node_part(tree: &Tree, n: NodeId, k: usize) -> Option<NodeId>
+pub(crate) fn node_part(tree: &Tree, n: NodeId, k: usize) -> Option<NodeId>
     requires { n.0 < length tree.now.nodes }
     ensures node { result ≡ node_first (behind k (kids_of tree.now.nodes n.0)) }
     ensures below { IfSome result (λ m. m.0 < n.0) }
@@ -66,7 +66,7 @@ fn node_part(tree: &Tree, n: NodeId, k: usize) -> Option<NodeId>
 }
 
 // Whether a node is a flow mapping.
-fn is_flow_mapping(tree: &Tree, n: NodeId) -> bool
+pub(crate) fn is_flow_mapping(tree: &Tree, n: NodeId) -> bool
     requires { n.0 < length tree.now.nodes }
     ensures { let nodes = tree.now.nodes in
         result ≡ is_flow_mapping (class_in tree.now.leaves) (kind_of nodes n.0) (kids_of nodes n.0) }
@@ -83,7 +83,8 @@ fn is_flow_mapping(tree: &Tree, n: NodeId) -> bool
 // The first part of a node, if it is a scalar in flow context.
 fn scalar_part(tree: &Tree, n: NodeId) -> Option<u32>
     requires { n.0 < length tree.now.nodes }
-    ensures { result ≡ of_class (class_in tree.now.leaves) FSCALAR (leaf_first (kids_of tree.now.nodes n.0)) }
+    ensures scalar { result ≡ of_class (class_in tree.now.leaves) FSCALAR (leaf_first (kids_of tree.now.nodes n.0)) }
+    ensures inside { IfSome result (λ i. i < length tree.now.leaves) }
 {
     match leaf_part(tree, n, 0) {
         None => None,
@@ -100,7 +101,8 @@ fn scalar_part(tree: &Tree, n: NodeId) -> Option<u32>
 // The key of an item of a flow mapping: its first part, where that is a scalar alone.
 fn lone_scalar(tree: &Tree, n: NodeId) -> Option<u32>
     requires { n.0 < length tree.now.nodes }
-    ensures { result ≡ lone_scalar (class_in tree.now.leaves) (kids_of tree.now.nodes n.0) }
+    ensures scalar { result ≡ lone_scalar (class_in tree.now.leaves) (kids_of tree.now.nodes n.0) }
+    ensures inside { IfSome result (λ i. i < length tree.now.leaves) }
 {
     match node_part(tree, n, 0) {
         None => None,
@@ -115,10 +117,11 @@ fn lone_scalar(tree: &Tree, n: NodeId) -> Option<u32>
 }
 
 // The leaf of the key of a node, if it is an entry.
-fn key_in(tree: &Tree, n: NodeId, in_mapping: bool) -> Option<u32>
+pub(crate) fn key_in(tree: &Tree, n: NodeId, in_mapping: bool) -> Option<u32>
     requires { n.0 < length tree.now.nodes }
-    ensures { let nodes = tree.now.nodes in
+    ensures key { let nodes = tree.now.nodes in
         result ≡ key_in (class_in tree.now.leaves) in_mapping (kind_of nodes n.0) (kids_of nodes n.0) }
+    ensures inside { IfSome result (λ i. i < length tree.now.leaves) }
 {
     let kind = tree.kind(n);
     if kind == ENTRY {

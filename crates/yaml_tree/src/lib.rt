@@ -8,7 +8,7 @@
 //!     let key = tree.text(bytes, entry.key_leaf);
 //! }
 //! let path = KeyPath::read(alloc, b"$.jobs.*.steps[*].uses")?;
-//! // its steps are the name jobs, any name, the name steps, any item, and the name uses
+//! let found = path.finds(alloc, &tree, bytes)?;
 //! ```
 //!
 //! What comes of a file by the definition `IsYamlOutcome` is what `YamlReader::read` answers: a tree (clause `tree`)
@@ -19,15 +19,17 @@
 //!
 //! `KeyPath::read` gives the steps that a text spells (clause `path`), or the byte behind the longest front of the text
 //! that begins some key path, and then the text is none (`fault`). A text spells one key path at most (the law
-//! `key_paths_are_one`). `KeyPath::steps` gives the steps.
+//! `key_paths_are_one`). `KeyPath::steps` gives the steps, and `KeyPath::finds` the entries that the path finds in a
+//! file's tree (`found_in`), by the decoded texts of keys that `yaml_texts` gives.
 //!
 //! The definitions in specs/, in this order: `Reading` says what comes of a file, by the leaves of `yaml_lex`, the
 //! table, and `rw_grammar`'s reading by a table. `Entries` says which nodes of a tree are entries, over trees as plain
-//! data. `KeyPaths` is the grammar of key paths. `PathReading` is of the small functions that read them alone, and no
-//! public clause cites it.
+//! data. `KeyPaths` is the grammar of key paths, and `Found` says what they find. `PathReading` and `Finding` are of
+//! the small functions alone, and no public clause cites them.
 #![tactic(auto)]
 
 mod entry;
+mod finding;
 mod key_path;
 mod kind;
 mod laws;

@@ -20,7 +20,8 @@ pub returns-then-rest-eq46-clause-next : goal.returns-then-rest-eq46-clause-next
 returns-then-rest-eq46-clause-next c =
     let text = c.args.text.now in
     let left = drop c.args.at text in
-    let some = eqb-false (length (take (length text - c.args.at) left)) 0 (sym c.is_empty.ensures ∙ c.if-is_empty.false) in
+    let some = eqb-false (length (take (length text - c.args.at) left)) 0 (sym c.is_empty.ensures ∙
+    c.if-is_empty.false) in
     dot_next text c.args.steps.now.items c.args.at c.requires.goes_on
     (omega (arith, some, ap length (take_rest text c.args.at)))
     (ap (λ s. get_or s 0 0) (sym (take_rest text c.args.at)) ∙ c.if-rest-eq46.true)

@@ -8,7 +8,8 @@ use Rattle.yaml_tree.proofs.key_path.KeyPath.read.Goals as goal
 pub loop-steps-init : goal.loop-steps-init
 loop-steps-init c =
     subst (λ n. GoesOn AreNames c.args.text.now c.new-steps.result.items n) (sym c.start_size-at.ensures)
-    (subst (λ (xs : List PathStep). GoesOn AreNames c.args.text.now xs (start_size c.args.text.now)) (sym c.new-steps.ensures.items)
+    (subst (λ (xs : List PathStep). GoesOn AreNames c.args.text.now xs (start_size c.args.text.now)) (sym
+    c.new-steps.ensures.items)
     (start_read c.args.text.now))
 
 pub returns-in-None-clause-path : goal.returns-in-None-clause-path
