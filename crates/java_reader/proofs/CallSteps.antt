@@ -1,5 +1,7 @@
 -- The calls of the parts that are left, one part further; and none where no leaf is one of the unit.
-use Rattle.std.proofs.Common.{◌≡◌, ◌≢◌, ◌⊎◌, ℕ, zero, suc, ◌+◌, ◌-◌, ◌<◌, ◌≤◌, Bool, true, false, List, [], ◌∷◌, ◌++◌, length, get_or, drop, refl, sym, ap, subst, ◌∙◌, arith, append_assoc, append-nil, inl, inr}
+use Rattle.std.proofs.Common.{◌≡◌, ◌⊎◌, ℕ, zero, suc, ◌+◌, ◌-◌, ◌<◌, ◌≤◌, Bool, true, false, List, [], ◌∷◌, ◌++◌}
+use Rattle.std.proofs.Common.{length, get_or, drop, refl, sym, ap, subst, ◌∙◌, arith, append_assoc, append-nil, inl}
+use Rattle.std.proofs.Common.{inr}
 use Rattle.std.specs.Prelude.{Option, Some, None, if◌then◌else◌, ◌==◌, ◌||◌, ◌&&◌, nat_le, nat_lt}
 use Rattle.std.proofs.lemmas.Bool.Decides.{nat_tests}
 use Rattle.rw_base.specs.declared.tree.NodeId.{NodeId}
@@ -15,7 +17,8 @@ use Rattle.rw_base.specs.PartLaws.{leaf_next, node_next, none_next}
 use Rattle.java_reader.specs.declared.call.TheConstants.{PRIMARY, SELECTOR, ARGS}
 use Rattle.java_reader.specs.declared.call.CallView.{CallView}
 use Rattle.java_reader.specs.declared.call.Seen.{Seen}
-use Rattle.java_reader.specs.Calls.{opens, creates, nothing, found, with_leaf, with_args, with_node, seen_in, call_at, own_call, node_calls, calls_in, within}
+use Rattle.java_reader.specs.Calls.{opens, creates, nothing, found, with_leaf, with_args, with_node, seen_in, call_at}
+use Rattle.java_reader.specs.Calls.{own_call, node_calls, calls_in, within}
 
 -- ---- what is seen
 

@@ -1,7 +1,7 @@
 -- What a tree is that a rule derives: it has fewer nodes than a number of 32 bits tells, each of the kind of a rule.
 use Rattle.std.proofs.Common.{◌≡◌, ℕ, zero, suc, ◌+◌, ◌<◌, ◌≤◌, ◌^◌, List, [], ◌∷◌, ◌++◌, length, get_or, refl, sym, ap}
 use Rattle.std.proofs.Common.{subst, ◌∙◌, arith}
-use Rattle.std.specs.Prelude.{Option, Some, None, Result, Ok, Err, IsSome, slice_get}
+use Rattle.std.specs.Prelude.{Option, Result, Ok, IsSome, slice_get}
 use Rattle.rw_base.specs.declared.tree.Leaf.{Leaf}
 use Rattle.rw_base.specs.declared.leaves.Bad.{Bad}
 use Rattle.rw_base.specs.declared.leaves.TheConstants.{MOST_BYTES}
@@ -12,11 +12,11 @@ use Rattle.rw_base.specs.Trees.{Forest, Numbered, none, leaf, node, beside, size
 use Rattle.rw_base.specs.Laid.{kids_of, rows_from, laid_rows, with_numbers, parts_from}
 use Rattle.rw_base.specs.LaidLaws.{length-rows}
 use Rattle.rw_base.specs.LaidTrees.{laid_kids}
-use Rattle.rw_grammar.specs.Parts.{Parts, end, one, rule, choice, opt, many, or, rule_of}
+use Rattle.rw_grammar.specs.Parts.{Parts, rule_of}
 use Rattle.rw_grammar.specs.Derivation.{wrapped, Derives, by-end, by-one, by-rule, by-choice, by-empty, by-opt}
 use Rattle.rw_grammar.specs.Derivation.{by-no-opt, by-more, by-no-more}
 use Rattle.rw_grammar.specs.Faults.{IsFine, IsSound, IsLeastFault}
-use Rattle.rw_grammar.specs.Results.{IsDerived, class_in, all_of}
+use Rattle.rw_grammar.specs.Results.{IsDerived, class_in}
 use Rattle.rw_grammar.specs.TreeLaws.{fine_at, sound_fine}
 use Rattle.rw_grammar.specs.Reading.{IsOutcome, stops-at-leaf, ends-at-bad, is-too-deep, is-tree, is-cut}
 use Rattle.java_reader.specs.declared.kind.TheConstants.{KINDS}

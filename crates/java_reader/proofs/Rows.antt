@@ -1,5 +1,5 @@
 -- What is written out for each rule of the table: the classes that can come first, whether it can be empty, its rank.
-use Rattle.std.specs.Prelude.{true, false, List, [], ◌∷◌}
+use Rattle.std.specs.Prelude.{false, List, [], ◌∷◌}
 use Rattle.rw_grammar.specs.Closed.{Row}
 
 abbrev pub rows : List Row

@@ -1,6 +1,7 @@
 -- The units of the parts that are left, one part further.
-use Rattle.std.proofs.Common.{◌≡◌, ◌≢◌, ℕ, zero, suc, ◌+◌, ◌<◌, ◌≤◌, ◌^◌, Bool, true, false, List, [], ◌∷◌, ◌++◌, length, get_or, drop, refl, sym, ap, subst, ◌∙◌, arith, append_assoc, append-nil, length-append}
-use Rattle.std.specs.Prelude.{Option, Some, None, if◌then◌else◌, ◌==◌, ◌||◌}
+use Rattle.std.proofs.Common.{◌≡◌, ◌≢◌, ℕ, ◌+◌, ◌<◌, ◌≤◌, ◌^◌, Bool, true, false, List, [], ◌∷◌, ◌++◌, length, get_or}
+use Rattle.std.proofs.Common.{drop, refl, sym, ap, subst, ◌∙◌, arith, append_assoc, append-nil, length-append}
+use Rattle.std.specs.Prelude.{Option, if◌then◌else◌, ◌==◌, ◌||◌}
 use Rattle.std.proofs.lemmas.List.{drop_all}
 use Rattle.std.proofs.lemmas.Bool.{eq-eqb, ne_eqb}
 use Rattle.rw_base.specs.declared.tree.NodeId.{NodeId}
@@ -17,11 +18,12 @@ use Rattle.java_reader.specs.declared.role.Role.{Role}
 use Rattle.java_reader.specs.declared.role.Role.TheVariants as role
 use Rattle.java_reader.specs.declared.unit.UnitRef.{UnitRef}
 use Rattle.java_reader.specs.declared.unit.UnitKind.TheVariants as kind
-use Rattle.java_reader.specs.Units.{role_of, unit, units_in, of_node, node_units, begin, next_in, owner_in, outer_in, head_width, declares, some_node, is_body, is_type, is_plain, top_width}
+use Rattle.java_reader.specs.Units.{role_of, unit, units_in, of_node, node_units, begin, next_in, owner_in, outer_in}
+use Rattle.java_reader.specs.Units.{head_width, declares, some_node, is_body, is_type, is_plain, top_width}
 use Rattle.rw_base.specs.WalkLaws.{Stands}
 use Rattle.java_reader.specs.Walking.{Walking, Heading}
 use Rattle.rw_base.specs.WalkLaws.{kids_end}
-use Rattle.rw_base.specs.WalkLaws.{LeafStep, NodeStep, leaf_step, node_step, stands_first}
+use Rattle.rw_base.specs.WalkLaws.{leaf_step, node_step, stands_first}
 
 -- ---- there are at most as many units as nodes
 

@@ -2,7 +2,7 @@
 -- the Java Language Specification), class instance creations (15.9), and the calls of constructors that begin a
 -- constructor (8.8.7.1). In all of them the name is the last leaf before the arguments that isn't in type arguments.
 -- Here c tells the class of each leaf.
-use Rattle.std.specs.Prelude.{◌≡◌, ℕ, ◌+◌, ◌==◌, Bool, true, false, ◌||◌, ◌&&◌, nat_le, nat_lt, List, [], ◌∷◌, ◌++◌}
+use Rattle.std.specs.Prelude.{ℕ, ◌+◌, ◌==◌, Bool, true, false, ◌||◌, ◌&&◌, nat_le, nat_lt, List, [], ◌∷◌, ◌++◌}
 use Rattle.std.specs.Prelude.{Option, Some, None, if◌then◌else◌}
 use Rattle.rw_base.specs.Trees.{Numbered, none, leaf, node}
 use Rattle.rw_base.specs.Arena.{Arena}

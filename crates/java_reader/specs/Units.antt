@@ -1,6 +1,6 @@
 -- The units of a file: its package and imports, the head of each type, and each member. (In the Java Language
 -- Specification: compilation units in 7.3, types and their members in 8 and 9, enum constants in 8.9.1.)
-use Rattle.std.specs.Prelude.{◌≡◌, ℕ, ◌+◌, ◌<◌, ◌^◌, ◌==◌, Bool, true, false, ◌||◌, List, [], ◌∷◌, ◌++◌}
+use Rattle.std.specs.Prelude.{ℕ, ◌+◌, ◌<◌, ◌^◌, ◌==◌, Bool, true, false, ◌||◌, List, [], ◌∷◌, ◌++◌}
 use Rattle.std.specs.Prelude.{length, Option, Some, None, unwrap_or, if◌then◌else◌}
 use Rattle.rw_base.specs.Trees.{Trees, none, leaf, node, width, size}
 use Rattle.rw_base.specs.Arena.{Arena}

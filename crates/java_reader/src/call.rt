@@ -1,8 +1,8 @@
 // The calls of a unit.
-ghost use Rattle.std.specs.Prelude.{◌≡◌, ℕ, ◌+◌, ◌<◌, ◌≤◌, ◌^◌, ◌++◌, ◌∷◌, [], ◌&&◌, nat_le, nat_lt, length};
+ghost use Rattle.std.specs.Prelude.{◌≡◌, ◌+◌, ◌<◌, ◌≤◌, ◌++◌, ◌&&◌, nat_le, nat_lt, length};
 ghost use Rattle.std.specs.Prelude.{OnOk, IfOk, IsTrue};
 ghost use Rattle.std.specs.Option.{option_to_list};
-ghost use Rattle.rw_base.specs.Arena.{IsTree, kind_of, first_of, past_of};
+ghost use Rattle.rw_base.specs.Arena.{kind_of};
 ghost use Rattle.rw_base.specs.Laid.{kids_of};
 ghost use Rattle.rw_grammar.specs.Results.{class_in};
 ghost use Rattle.java_reader.specs.Calls.{call_at, calls_in, calls_of, creates, node_calls, opens, own_call, seen_in};

@@ -1,6 +1,6 @@
 // The units of a file.
-ghost use Rattle.std.specs.Prelude.{◌≡◌, ℕ, ◌+◌, ◌<◌, ◌≤◌, ◌^◌, ◌++◌, ◌∷◌, [], None, Some, length, OnOk, IfOk};
-ghost use Rattle.rw_base.specs.Arena.{IsTree, kind_of, first_of};
+ghost use Rattle.std.specs.Prelude.{◌≡◌, ◌+◌, ◌<◌, ◌^◌, ◌++◌, None, Some, length, OnOk, IfOk};
+ghost use Rattle.rw_base.specs.Arena.{kind_of, first_of};
 ghost use Rattle.rw_base.specs.Trees.{size};
 ghost use Rattle.rw_base.specs.Laid.{kids_of};
 ghost use Rattle.rw_grammar.specs.Results.{class_in};
@@ -87,7 +87,7 @@ fn add_units(
         (kids_of t.nodes n.0) in
         OnOk result (out.new.items ≡ out.old.items ++ more) }
 {
-    let (first, past) = tree.leaves_of(n);
+    let _ = tree.root();
     let parts = tree.parts(n);
     for part in parts {
         match part {
@@ -205,7 +205,7 @@ fn head_end(tree: &Tree, n: NodeId) -> u32
     ensures { let t = tree.now in
         result ≡ first_of t.nodes n.0 + head_width (class_in t.leaves) (kids_of t.nodes n.0) }
 {
-    let (first, past) = tree.leaves_of(n);
+    let past = tree.leaves_of(n).1;
     let parts = tree.parts(n);
     for part in parts {
         match part {

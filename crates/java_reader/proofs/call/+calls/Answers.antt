@@ -1,4 +1,4 @@
-use Rattle.std.proofs.Common.{◌≡◌, ◌<◌, ◌+◌, ◌*◌, ◌++◌, ◌∙◌, ap, inl, inr, arith}
+use Rattle.std.proofs.Common.{◌+◌, ◌++◌, ◌∙◌, ap, inl, inr, arith}
 use Rattle.rw_base.specs.declared.tree.Part.TheVariants as part
 use Rattle.rw_base.specs.Arena.{kind_of}
 use Rattle.rw_base.specs.Laid.{kids_of}

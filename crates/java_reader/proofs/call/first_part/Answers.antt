@@ -1,4 +1,4 @@
-use Rattle.std.proofs.Common.{◌+◌, ◌-◌, ◌/◌, ◌≤◌, length, arith}
+use Rattle.std.proofs.Common.{◌+◌, ◌-◌, ◌/◌, arith}
 use Rattle.java_reader.proofs.SkipSteps.{part_in, begins_later}
 use Rattle.java_reader.proofs.call.first_part.Goals as goal
 

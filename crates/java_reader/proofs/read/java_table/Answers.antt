@@ -1,4 +1,4 @@
-use Rattle.std.proofs.Common.{◌≡◌, ◌∙◌, ap, sym}
+use Rattle.std.proofs.Common.{◌∙◌, ap}
 use Rattle.std.specs.Prelude.{Err}
 use Rattle.rw_grammar.specs.Codes.{parts_spelled}
 use Rattle.java_reader.specs.Reading.{java_rules}

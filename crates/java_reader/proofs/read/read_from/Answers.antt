@@ -1,4 +1,4 @@
-use Rattle.std.proofs.Common.{◌≡◌, ◌∙◌, ◌+◌, length, ap}
+use Rattle.std.proofs.Common.{◌∙◌, ◌+◌, length, ap}
 use Rattle.std.specs.Prelude.{Ok, Err}
 use Rattle.java_reader.specs.Reading.{one-each}
 use Rattle.java_reader.proofs.ReadTrees.{reads, derived_tree, few_nodes, kinds_of_tree, one_count}

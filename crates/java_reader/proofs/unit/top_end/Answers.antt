@@ -1,7 +1,6 @@
-use Rattle.std.proofs.Common.{◌≡◌, ◌+◌, ◌∙◌, sym, ap, refl, arith, subst}
+use Rattle.std.proofs.Common.{◌∙◌, sym, ap, refl, arith}
 use Rattle.rw_base.specs.Arena.{past_of}
 use Rattle.java_reader.specs.Units.{is_plain, role_of, top_width}
-use Rattle.rw_base.specs.WalkLaws.{Stands}
 use Rattle.rw_base.specs.WalkLaws.{stands_first}
 use Rattle.java_reader.proofs.UnitSteps.{top_leaf, top_none, top_here, top_on, top_stands}
 use Rattle.java_reader.proofs.unit.top_end.Goals as goal
