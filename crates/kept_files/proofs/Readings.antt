@@ -1,5 +1,5 @@
 -- What files read as, from what the readers ensure.
-use Rattle.std.proofs.Common.{◌≡◌, ℕ, ◌<◌, ◌≤◌, arith, Bool, true, false, List, length, Option, Some, None, Result, Ok, Err, refl, sym, ap, ◌∙◌, nat_lt}
+use Rattle.std.proofs.Common.{◌≡◌, ℕ, ◌<◌, ◌≤◌, arith, true, false, List, length, Option, Some, None, Result, Ok, Err, refl, sym, ap, ◌∙◌, nat_lt}
 use Rattle.std.specs.Prelude.{IfOk}
 use Rattle.std.proofs.lemmas.Bool.Decides.{nat_tests}
 use Rattle.rw_base.specs.Arena.{Arena}
@@ -14,10 +14,11 @@ use Rattle.properties_tree.specs.Refusal.{too_large}
 use Rattle.java_lex.specs.Laws.{AreBytes}
 use Rattle.java_reader.specs.declared.read.TheConstants.{UNIT}
 use Rattle.java_reader.specs.Reading.{IsJavaRead, AreReadSteps}
+use Rattle.yaml_tree.specs.Reading.{IsYamlOutcome}
 use Rattle.kept_files.specs.declared.kind.FileKind.{FileKind}
-use Rattle.kept_files.specs.declared.kind.FileKind.TheVariants.{Java, Properties, Other}
+use Rattle.kept_files.specs.declared.kind.FileKind.TheVariants.{Java, Yaml, Properties, Other}
 use Rattle.kept_files.specs.Kinds.{kind_of}
-use Rattle.kept_files.specs.Readings.{java_reading, properties_reading, IsReadAs, IsReading, AreSteps, Reads, AreReadings, AreBytesOrNone}
+use Rattle.kept_files.specs.Readings.{java_reading, yaml_reading, properties_reading, IsReadAs, IsReading, AreSteps, Reads, AreReadings, AreBytesOrNone}
 
 lt_true : (a b : ℕ) → a < b → nat_lt a b ≡ true
 lt_true a b h = grind (arith, nat_tests)
@@ -42,6 +43,14 @@ java_tree bytes t h = (Ok t, (h, refl))
 pub java_refused : (bytes : List ℕ) (r : Refused) → IsJavaRead UNIT bytes (Err r) → IsReadAs Java bytes (reading.Refused r)
 unfolding IsReadAs
 java_refused bytes r h = (Err r, (h, refl))
+
+pub yaml_read : (bytes : List ℕ) (t : Arena) → IsYamlOutcome bytes (Ok t) → IsReadAs Yaml bytes (reading.Yaml t)
+unfolding IsReadAs
+yaml_read bytes t h = (Ok t, (h, refl))
+
+pub yaml_refused : (bytes : List ℕ) (r : Refused) → IsYamlOutcome bytes (Err r) → IsReadAs Yaml bytes (reading.Refused r)
+unfolding IsReadAs
+yaml_refused bytes r h = (Err r, (h, refl))
 
 pub to_steps : (bytes : List ℕ) (old new : ℕ) → AreReadSteps bytes old new → AreSteps Java bytes old new
 unfolding AreSteps
@@ -72,22 +81,26 @@ same read path bytes r are b is = are path (Some bytes) r b is
 pub no_steps : (k : FileKind) (bytes : List ℕ) (n : ℕ) → (k ≡ Java → ⊥) → AreSteps k bytes n n
 unfolding AreSteps
 no_steps Java bytes n ne = absurd (ne refl)
+no_steps Yaml bytes n ne = refl
 no_steps Properties bytes n ne = refl
 no_steps Other bytes n ne = refl
 
 pub most_steps : (k : FileKind) (bytes : List ℕ) (n most : ℕ) → (k ≡ Java → ⊥) → AreSteps k bytes n most → n ≤ most
 unfolding AreSteps
 most_steps Java bytes n most ne h = absurd (ne refl)
+most_steps Yaml bytes n most ne h = omega (arith, h)
 most_steps Properties bytes n most ne h = omega (arith, h)
 most_steps Other bytes n most ne h = omega (arith, h)
 
 pub ruleset files = (by_kind, properties_file, other_file, same, no_steps, most_steps)
 
 -- a file reads as one thing, where this holds of Java
-module _ (one_tree : (start : ℕ) (bytes : List ℕ) (a b : Result Arena Refused) → AreBytes bytes → IsJavaRead start bytes a → IsJavaRead start bytes b → a ≡ b) where
+module _ (one_tree : (start : ℕ) (bytes : List ℕ) (a b : Result Arena Refused) → AreBytes bytes → IsJavaRead start bytes a → IsJavaRead start bytes b → a ≡ b)
+    (one_document : (bytes : List ℕ) (a b : Result Arena Refused) → IsYamlOutcome bytes a → IsYamlOutcome bytes b → a ≡ b) where
   of_kind : (k : FileKind) (bytes : List ℕ) (a b : Reading) → AreBytes bytes → IsReadAs k bytes a → IsReadAs k bytes b → a ≡ b
   unfolding IsReadAs
   of_kind Java bytes a b are x y = x.1.1 ∙ ap java_reading (one_tree UNIT bytes x.0 y.0 are x.1.0 y.1.0) ∙ sym y.1.1
+  of_kind Yaml bytes a b are x y = x.1.1 ∙ ap yaml_reading (one_document bytes x.0 y.0 x.1.0 y.1.0) ∙ sym y.1.1
   of_kind Properties bytes a b are x y = x ∙ sym y
   of_kind Other bytes a b are x y = x ∙ sym y
 
@@ -113,3 +126,8 @@ pub properties_same : {E : Type 0} (read : Reads) → AreReadings read → (path
     → IfOk r (λ r. r ≡ properties_reading bytes) → IfOk r (λ r. r ≡ read path (Some bytes))
 properties_same read are path bytes (Ok r) b k h = same read path bytes r are b (properties_file path bytes r k h)
 properties_same read are path bytes (Err e) b k h = tt
+
+pub yaml_same : {E : Type 0} (read : Reads) → AreReadings read → (path bytes : List ℕ) (r : Result Reading E) → AreBytes bytes → kind_of path ≡ Yaml
+    → IfOk r (λ r. IsReadAs Yaml bytes r) → IfOk r (λ r. r ≡ read path (Some bytes))
+yaml_same read are path bytes (Ok r) b k h = same read path bytes r are b (by_kind Yaml path bytes r k h)
+yaml_same read are path bytes (Err e) b k h = tt

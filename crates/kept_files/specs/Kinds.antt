@@ -3,7 +3,7 @@ use Rattle.std.specs.Prelude.{ℕ, ◌-◌, ◌==◌, Bool, false, not, ◌||◌
 use Rattle.std.specs.List.{list_any, slice_split}
 use Rattle.std.specs.Str.{bytes_eq}
 use Rattle.kept_files.specs.declared.kind.FileKind.{FileKind}
-use Rattle.kept_files.specs.declared.kind.FileKind.TheVariants.{Java, Properties, Other}
+use Rattle.kept_files.specs.declared.kind.FileKind.TheVariants.{Java, Yaml, Properties, Other}
 
 abbrev pub begins_with_dot : List ℕ → Bool
 begins_with_dot [] = false
@@ -23,6 +23,7 @@ ends_with path ending = bytes_eq (drop (length path - length ending) path) endin
 unfoldable pub kind_by_ending : List ℕ → FileKind
 kind_by_ending path =
     if ends_with path (codes ".java") then Java
+    else if ends_with path (codes ".yml") || ends_with path (codes ".yaml") then Yaml
     else if ends_with path (codes ".properties") then Properties
     else Other
 

@@ -10,14 +10,20 @@ use Rattle.properties_tree.specs.Refusal.{too_large}
 use Rattle.java_lex.specs.Laws.{AreBytes}
 use Rattle.java_reader.specs.declared.read.TheConstants.{UNIT}
 use Rattle.java_reader.specs.Reading.{IsJavaRead, AreReadSteps}
+use Rattle.yaml_tree.specs.Reading.{IsYamlOutcome}
 use Rattle.kept_files.specs.declared.kind.FileKind.{FileKind}
-use Rattle.kept_files.specs.declared.kind.FileKind.TheVariants.{Java, Properties, Other}
+use Rattle.kept_files.specs.declared.kind.FileKind.TheVariants.{Java, Yaml, Properties, Other}
 use Rattle.kept_files.specs.Kinds.{kind_of}
 
 -- what is kept of a reading of Java
 abbrev pub java_reading : Result Arena Refused → Reading
 java_reading (Ok tree) = reading.Java tree
 java_reading (Err refused) = reading.Refused refused
+
+-- and of one of YAML
+abbrev pub yaml_reading : Result Arena Refused → Reading
+yaml_reading (Ok tree) = reading.Yaml tree
+yaml_reading (Err refused) = reading.Refused refused
 
 -- what a properties file reads as
 unfoldable pub properties_reading : List ℕ → Reading
@@ -27,6 +33,7 @@ properties_reading bytes =
 -- what the bytes of a file of a kind read as
 unfoldable pub IsReadAs : FileKind → List ℕ → Reading → Type 0
 IsReadAs Java bytes r = (outcome : Result Arena Refused) × (IsJavaRead UNIT bytes outcome × (r ≡ java_reading outcome))
+IsReadAs Yaml bytes r = (outcome : Result Arena Refused) × (IsYamlOutcome bytes outcome × (r ≡ yaml_reading outcome))
 IsReadAs Properties bytes r = r ≡ properties_reading bytes
 IsReadAs Other bytes r = r ≡ reading.Unread
 

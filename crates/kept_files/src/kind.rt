@@ -6,6 +6,7 @@ ghost use Rattle.kept_files.specs.Kinds.{begins_with_dot, ends_with, is_hidden, 
 #[derive(Clone, Copy, Debug, PartialEq, Eq)]
 pub enum FileKind {
     Java,
+    Yaml,
     Properties,
     /// A file that isn't read.
     Other,
@@ -47,6 +48,8 @@ fn kind_by_ending(path: &[u8]) -> FileKind
 {
     if ends_with(path, b".java") {
         FileKind::Java
+    } else if ends_with(path, b".yml") || ends_with(path, b".yaml") {
+        FileKind::Yaml
     } else if ends_with(path, b".properties") {
         FileKind::Properties
     } else {

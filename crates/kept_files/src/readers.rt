@@ -12,11 +12,13 @@ use rw_base::{Mem, NoMemory, ReadFault, Reading};
 use rw_host::Steps;
 use std::alloc::Global;
 use std::sync::ledger::Ledger;
+use yaml_tree::YamlReader;
 
 /// Reads files of all kinds. It keeps their tables, which are checked once.
 #[derive(Drop)]
 pub struct Readers {
     java: JavaReader,
+    yaml: YamlReader,
 }
 
 #[tactic(auto, using(crate::proofs::Readings::properties))]
@@ -49,11 +51,23 @@ fn are_bytes(bytes: &[u8])
     ensures { AreBytes bytes.now }
 {}
 
+fn read_as_yaml(alloc: Global, reader: &YamlReader, bytes: &[u8]) -> Mem<Reading>
+    ensures reading { IfOk result (λ r. IsReadAs FileKind.Yaml bytes.now r) }
+    ensures whole { IfOk result (λ r. EndsWith bytes.now r) }
+{
+    match reader.read(alloc, bytes) {
+        Ok(tree) => Ok(Reading::Yaml(tree)),
+        Err(ReadFault::Refused(refused)) => Ok(Reading::Refused(refused)),
+        Err(ReadFault::NoMemory) => Err(NoMemory),
+    }
+}
+
 impl Readers {
     /// The readers. It fails only where memory is wanting.
     pub fn new(alloc: Global) -> Mem<Readers> {
         Ok(Readers {
             java: JavaReader::new(alloc)?,
+            yaml: YamlReader::new(alloc)?,
         })
     }
 
@@ -76,6 +90,7 @@ impl Readers {
         are_bytes(bytes);
         match kind_of(path) {
             FileKind::Java => read_as_java(&self.java, bytes, steps),
+            FileKind::Yaml => read_as_yaml(alloc, &self.yaml, bytes),
             FileKind::Properties => read_as_properties(alloc, bytes),
             FileKind::Other => Ok(Reading::Unread),
         }

@@ -1,9 +1,7 @@
 -- What the words ask for, by what was read of them.
-use Rattle.std.proofs.Common.{◌≡◌, ℕ, Bool, true, false, List, Option, None, Some, refl, sym, ap, subst, ◌∙◌}
+use Rattle.std.proofs.Common.{◌≡◌, ℕ, true, false, List, None, Some, refl, sym, subst, ◌∙◌}
 use Rattle.std.specs.Prelude.{IsNone}
-use Rattle.std.specs.Option.{option_map}
-use Rattle.properties_tree.specs.declared.option.PropertiesChangePropertyKey.{PropertiesChangePropertyKey}
-use Rattle.rewrite_cli.specs.Words.{Command, rename, check, command_of, is_check, keys_of, options_in, options_of}
+use Rattle.rewrite_cli.specs.Words.{Command, rename, check, command_of, is_check, keys_of, options_of}
 
 some_of : (a b : Command) → Some a ≡ Some b → a ≡ b
 some_of a b e = cc

@@ -1,6 +1,6 @@
 -- Words by their number.
 use Rattle.std.specs.Prelude.{map}
-use Rattle.std.proofs.Common.{◌≡◌, ℕ, Bool, false, List, [], ◌∷◌, length, get_or, refl, sym, ap, ◌∙◌, arith}
+use Rattle.std.proofs.Common.{◌≡◌, ℕ, Bool, false, List, [], ◌∷◌, length, get_or, refl, ap, ◌∙◌, arith}
 use Rattle.rewrite_cli.specs.Words.{is_check}
 
 module _ {A : Type 0} (f : A → List ℕ) where

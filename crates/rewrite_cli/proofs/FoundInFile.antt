@@ -1,7 +1,7 @@
 -- What `check` finds of one file.
-use Rattle.std.specs.Prelude.{min, IfOk, codes, decimal, Ok, Err, Result, is_some}
+use Rattle.std.specs.Prelude.{codes, decimal, is_some}
 use Rattle.std.specs.Option.{option_map}
-use Rattle.std.proofs.Common.{◌≡◌, ℕ, ◌<◌, ◌≤◌, ◌+◌, ◌++◌, ◌||◌, Bool, true, false, List, [], ◌∷◌, length, Option, None, Some, refl, sym, ap, subst, ◌∙◌, arith, append_assoc, append-nil}
+use Rattle.std.proofs.Common.{◌≡◌, ℕ, ◌+◌, ◌++◌, ◌||◌, Bool, true, false, List, length, Option, None, Some, refl, sym, ap, ◌∙◌, append_assoc, append-nil}
 use Rattle.std.specs.FinMap as map
 use Rattle.rw_base.specs.declared.place.Refused.{Refused}
 use Rattle.rw_base.specs.declared.reading.Reading.{Reading}

@@ -7,7 +7,7 @@ use Rattle.rw_base.specs.declared.leaves.TheConstants.{MOST_BYTES}
 use Rattle.properties_tree.specs.Layout.{tree_of}
 use Rattle.conf_recipes.specs.PropertiesEdits.{edits_of}
 use Rattle.kept_files.specs.declared.kind.FileKind.{FileKind}
-use Rattle.kept_files.specs.declared.kind.FileKind.TheVariants.{Java, Properties, Other}
+use Rattle.kept_files.specs.declared.kind.FileKind.TheVariants.{Properties}
 use Rattle.kept_files.specs.Kinds.{kind_of}
 
 abbrev pub is_for_properties : FileKind → Bool

@@ -3,12 +3,13 @@ use Rattle.std.specs.Prelude.{ℕ, ◌+◌, Bool, true, false, min, List, [], �
 use Rattle.std.specs.FinMap as map
 use Rattle.rw_host.specs.Files.{Files}
 use Rattle.kept_files.specs.declared.kind.FileKind.{FileKind}
-use Rattle.kept_files.specs.declared.kind.FileKind.TheVariants.{Java, Properties, Other}
+use Rattle.kept_files.specs.declared.kind.FileKind.TheVariants.{Java, Yaml, Properties, Other}
 use Rattle.kept_files.specs.Kinds.{kind_of}
 use Rattle.rewrite_cli.specs.declared.sources.TheConstants.{MOST_READ}
 
 abbrev pub has_reader : FileKind → Bool
 has_reader Java = true
+has_reader Yaml = true
 has_reader Properties = true
 has_reader Other = false
 

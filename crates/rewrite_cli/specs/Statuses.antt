@@ -1,5 +1,5 @@
 -- How a command ended, as its status and its text.
-use Rattle.std.specs.Prelude.{◌≡◌, ℕ, ◌⊎◌, ◌≤◌, List, [], Result, Ok, Err}
+use Rattle.std.specs.Prelude.{◌≡◌, ℕ, ◌⊎◌, ◌≤◌, List, Result, Ok, Err}
 use Rattle.rw_host.specs.Files.{Files}
 use Rattle.rw_host.specs.declared.fault.StoreFault.{StoreFault}
 use Rattle.rw_host.specs.declared.fault.StoreFault.TheVariants as fault

@@ -56,7 +56,7 @@ fn tell<K: Sink>(out: &mut K, ended: Result<Done, Stop>) -> u8
 /// | words | what is done |
 /// |---|---|
 /// | `run org.openrewrite.properties.ChangePropertyKey OLD NEW` | the key OLD becomes NEW in each properties file |
-/// | `check`, `check --workers N`, `check --workers=N` | each Java and properties file is read, and nothing is written |
+/// | `check`, `check --workers N`, `check --workers=N` | each Java, YAML and properties file is read, and nothing is written |
 ///
 /// | status | when | text |
 /// |---|---|---|

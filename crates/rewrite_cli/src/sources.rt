@@ -15,7 +15,7 @@ pub fn is_read(path: &str) -> bool
     ensures { result ≡ is_read path.now }
 {
     match kind_of(path) {
-        FileKind::Java | FileKind::Properties => true,
+        FileKind::Java | FileKind::Yaml | FileKind::Properties => true,
         FileKind::Other => false,
     }
 }

@@ -1,10 +1,5 @@
-use Rattle.std.proofs.Common.{◌≡◌, ◌∙◌, sym, ap, true, Some}
-use Rattle.std.specs.Prelude.{map as map_list}
+use Rattle.std.proofs.Common.{◌∙◌, sym, ap, Some}
 use Rattle.std.specs.Option.{option_map}
-use Rattle.std.specs.FinMap as map
-use Rattle.rw_host.specs.Files.{first_bytes}
-use Rattle.rewrite_cli.specs.declared.sources.TheConstants.{MOST_READ}
-use Rattle.rewrite_cli.specs.Sources.{is_read}
 use Rattle.rewrite_cli.specs.Checking.{refusal_in}
 use Rattle.rewrite_cli.proofs.FoundInFile.{found_text, found_refused}
 use Rattle.rewrite_cli.proofs.checking.check_file.Goals as goal

@@ -1,4 +1,4 @@
-use Rattle.std.proofs.Common.{◌≡◌, ◌∷◌, ◌≤◌, ◌∙◌, length, sym, ap, subst, arith}
+use Rattle.std.proofs.Common.{◌≡◌, ◌∷◌, ◌∙◌, length, sym, ap, arith}
 use Rattle.std.specs.Vec.Iter.{into_iter_items}
 use Rattle.rewrite_cli.proofs.Walked.{text_more, refused_more, bytes_more, text_all, refused_all}
 use Rattle.rewrite_cli.proofs.checking.check_files.Goals as goal

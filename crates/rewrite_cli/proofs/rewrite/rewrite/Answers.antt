@@ -1,7 +1,7 @@
 use Rattle.std.proofs.Common.{◌≡◌, ◌≤◌, ◌++◌, ◌∙◌, sym, ap, subst, inl, inr, map as map_list, string_bytes}
 use Rattle.rw_host.specs.Files.{Rose}
 use Rattle.rw_host.specs.Sink.{PutsPrefix}
-use Rattle.rewrite_cli.specs.Words.{check, rename}
+use Rattle.rewrite_cli.specs.Words.{rename}
 use Rattle.rewrite_cli.specs.Answers.{AreLeft, IsPut, answer}
 use Rattle.rewrite_cli.specs.Statuses.{IsAnswered}
 use Rattle.rewrite_cli.proofs.Answering.{eight_is_not_seven, answer_status, answer_text, answer_left, done_status, cut_text}
