@@ -1,4 +1,4 @@
-use Rattle.std.proofs.Common.{◌<◌, length, Bool, true, false, sym, ◌∙◌, ap, arith}
+use Rattle.std.proofs.Common.{◌<◌, length, sym, ◌∙◌, ap, arith}
 use Rattle.std.specs.Prelude.{Some}
 use Rattle.yaml_tree.proofs.ScalarSteps.{around_here, around_later}
 use Rattle.yaml_tree.proofs.scalars.opening_around.Goals as goal

@@ -2,7 +2,7 @@ use Rattle.std.proofs.Common.{◌≡◌, ℕ, ◌-◌, List, length, take, drop,
 use Rattle.std.proofs.lemmas.List.{take_rest}
 use Rattle.std.specs.Prelude.{Option, Some, None, MatchOption, IfOk}
 use Rattle.yaml_texts.specs.Texts.{scalar_text}
-use Rattle.yaml_tree.specs.Scalars.{column_around, scalar_of}
+use Rattle.yaml_tree.specs.Scalars.{column_around}
 use Rattle.yaml_tree.proofs.ScalarSteps.{said_here}
 use Rattle.yaml_tree.proofs.scalars.scalar.Goals as goal
 use Rattle.yaml_tree.proofs.scalars.scalar.Goals.{then-needs_column, else-needs_column}
