@@ -5,3 +5,4 @@ pub mod PathFronts
 pub mod PathNames
 pub mod PathSteps
 pub mod FoundSteps
+pub mod ScalarSteps

@@ -4,3 +4,5 @@ pub mod KeyPaths
 pub mod PathReading
 pub mod Found
 pub mod Finding
+pub mod Scalars
+pub mod Decoding

@@ -22,7 +22,7 @@ const DOC_PART: u16 = Kind::DocPart as u16;
 
 const NODE: u16 = Kind::Node as u16;
 
-const SEQ: u16 = Kind::Seq as u16;
+pub(crate) const SEQ: u16 = Kind::Seq as u16;
 
 const ITEM: u16 = Kind::Item as u16;
 

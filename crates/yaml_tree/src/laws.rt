@@ -4,6 +4,7 @@ ghost use Rattle.rw_base.specs.declared.place.Refused.{Refused};
 ghost use Rattle.rw_base.specs.Arena.{Arena};
 ghost use Rattle.yaml_tree.specs.Reading.{IsYamlOutcome};
 ghost use Rattle.yaml_tree.specs.KeyPaths.{KeyPathsAreOne};
+ghost use Rattle.yaml_tree.specs.Scalars.{KeyPathsCompareScalars};
 
 use rw_grammar::closed_rows_show_a_sound_table;
 use yaml_lex::leaves_are_one;
@@ -19,4 +20,9 @@ pub fn readings_are_one()
 /// A text spells one key path at most.
 pub fn key_paths_are_one()
     ensures { KeyPathsAreOne }
+{}
+
+/// The texts that a key path compares with its names are those that `scalar` gives.
+pub fn key_paths_compare_scalars()
+    ensures { KeyPathsCompareScalars }
 {}
