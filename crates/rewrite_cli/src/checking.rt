@@ -1,5 +1,6 @@
 // What `check` tells of a repository.
-ghost use Rattle.std.specs.Prelude.{◌≡◌, ◌≢◌, ◌≤◌, ◌<◌, ◌+◌, ◌++◌, ◌||◌, IsTrue, IfOk, OnOk, Err, Some, is_some, decimal};
+ghost use Rattle.std.specs.Prelude.{◌≡◌, ◌≢◌, ◌≤◌, ◌<◌, ◌+◌, ◌++◌, ◌||◌, IsTrue, IfOk, OnOk, Err, Some};
+ghost use Rattle.std.specs.Prelude.{is_some, decimal};
 ghost use Rattle.rw_host.specs.Files.{Rose};
 ghost use Rattle.kept_files.specs.Readings.{AreReadings, Reads};
 ghost use Rattle.rewrite_cli.specs.Sources.{bytes_at, bytes_read};

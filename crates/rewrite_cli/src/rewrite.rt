@@ -56,7 +56,7 @@ fn tell<K: Sink>(out: &mut K, ended: Result<Done, Stop>) -> u8
 /// | words | what is done |
 /// |---|---|
 /// | `run org.openrewrite.properties.ChangePropertyKey OLD NEW` | the key OLD becomes NEW in each properties file |
-/// | `check`, `check --workers N`, `check --workers=N` | each Java, YAML and properties file is read, and nothing is written |
+/// | `check`, `check --workers N`, `check --workers=N` | each Java, YAML and properties file is read; none is written |
 ///
 /// | status | when | text |
 /// |---|---|---|
@@ -67,7 +67,7 @@ fn tell<K: Sink>(out: &mut K, ended: Result<Done, Stop>) -> u8
 /// | 5 | the store failed to write or sync | `write fault` |
 /// | 6 | the system refused memory | none |
 /// | 7 | done, but the text didn't go out whole | the first part of it |
-/// | 8 | there are more than 100,000 paths; of `check`: 10,000 files or 67,108,864 bytes | `limit: paths more than 100000` |
+/// | 8 | more than 100,000 paths; of `check`: 10,000 files or 67,108,864 bytes | `limit: paths more than 100000`, .. |
 pub fn rewrite<S: Store, K: Sink, G: Gate>(
     alloc: Global,
     words: &[String],
