@@ -1,6 +1,0 @@
-use Rattle.std.specs.Prelude.{◌≢◌, All, take}
-use Rattle.rw_base.specs.declared.edit.Edit.{Edit}
-use Rattle.worked_examples.proofs.edits.is_free.Given as goal
-
-abbrev pub invariant-loop-edit : goal.invariant-loop-edit
-invariant-loop-edit l = All (λ (f : Edit). f.spot ≢ l.spot) (take l.edit-index l.edits)
