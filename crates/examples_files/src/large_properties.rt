@@ -1,10 +1,9 @@
-// Large properties files. The answers are counts, and the checksums of texts, which can be worked out without the program.
+// Large properties files. The answers are counts, and the checksums of texts, which can be worked out without the
+// program.
 use crate::properties::{put_made, tree_in};
 use crate::recipes::put_renaming;
 use examples_base::{Answer, put_refused, repeated};
-use properties_tree::{
-    entry_count, key_of, read_properties, spell_key, spell_value, value_of,
-};
+use properties_tree::{entry_count, key_of, read_properties, spell_key, spell_value, value_of};
 use rw_base::NodeId;
 use std::alloc::Global;
 

@@ -1,5 +1,5 @@
-//! Worked examples of files: properties files and what a recipe does to them, paths, stores and sinks. The program reads
-//! cases and writes each with its answer, and the file `stdout` holds what it must write (see `examples_base`).
+//! Worked examples of files: properties files and what a recipe does to them, paths, stores and sinks. The program
+//! reads cases and writes each with its answer, and the file `stdout` holds what it must write (see `examples_base`).
 //!
 //! `properties` and `recipes` read and rename keys, `stores` makes calls on a store of any kind, `makes` makes one, and
 //! the modules that begin with `large` make calls with large inputs. What is proved of a call stands in its crate.
@@ -84,7 +84,14 @@ fn main(rt: HostRuntime) -> Result<(), Stop> {
         let line = line?;
         let mut out = Answer::new(alloc);
         if lines.read(alloc, line.as_str(), &mut out) {
-            put_answer(&rt, alloc, &mut store, lines.heading(), line.as_str(), &mut out);
+            put_answer(
+                &rt,
+                alloc,
+                &mut store,
+                lines.heading(),
+                line.as_str(),
+                &mut out,
+            );
         }
         out.print(&rt)?;
     }

@@ -1,6 +1,6 @@
-// Stores of all kinds. A store is made by its word: `steady` or `memory`, with two files or none; `failing`, with the call
-// from which on all fail, two files, and the numbers of further calls that fail; or `folder`, with its name. The calls
-// behind it are made on it.
+// Stores of all kinds. A store is made by its word: `steady` or `memory`, with two files or none; `failing`, with the
+// call from which on all fail, two files, and the numbers of further calls that fail; or `folder`, with its name. The
+// calls behind it are made on it.
 ghost use Rattle.std.specs.Prelude.{◌≢◌, IfOk, IfSome};
 ghost use Rattle.memory_stores.specs.Table.{IsEachOnce};
 

@@ -1,5 +1,5 @@
-// What others do in a folder that a store is over. Behind `outside` stands `write`, `read`, `folder`, `remove` or `link`,
-// and then the path, made of texts; before that of a link its target.
+// What others do in a folder that a store is over. Behind `outside` stands `write`, `read`, `folder`, `remove` or
+// `link`, and then the path, made of texts; before that of a link its target.
 use examples_base::{Answer, Words};
 use std::alloc::Global;
 use std::fs;

@@ -113,7 +113,13 @@ fn put_has_key(alloc: Global, bytes: &[u8], key: &[u8], out: &mut Answer) {
 }
 
 // The next place of a key, from a byte on.
-fn next_place(alloc: Global, bytes: &[u8], at: usize, key: &[u8], out: &mut Answer) -> Option<KeyPlace> {
+fn next_place(
+    alloc: Global,
+    bytes: &[u8],
+    at: usize,
+    key: &[u8],
+    out: &mut Answer,
+) -> Option<KeyPlace> {
     if at > bytes.len() {
         return None;
     }

@@ -42,7 +42,12 @@ fn put_edited(
 }
 
 // Writes what a renaming in one pass gives, which is nothing where nothing is renamed.
-fn put_in_one_pass(alloc: Global, bytes: &[u8], options: &PropertiesChangePropertyKey, out: &mut Answer) {
+fn put_in_one_pass(
+    alloc: Global,
+    bytes: &[u8],
+    options: &PropertiesChangePropertyKey,
+    out: &mut Answer,
+) {
     if bytes.len() > MOST_BYTES {
         out.refuse("file of that size");
         return;

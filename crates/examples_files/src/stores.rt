@@ -1,5 +1,5 @@
-// Calls on a store: `list MOST`, `read PATH MOST`, `reserve COUNT`, `put PATH TEXT`, which makes room first, `remove PATH`
-// and `sync`; `put-at`, whose path is made of texts, `put-many COUNT`, and `count MOST`.
+// Calls on a store: `list MOST`, `read PATH MOST`, `reserve COUNT`, `put PATH TEXT`, which makes room first, `remove
+// PATH` and `sync`; `put-at`, whose path is made of texts, `put-many COUNT`, and `count MOST`.
 ghost use Rattle.std.specs.Prelude.{◌≡◌, IfSome};
 
 use crate::sinks::put_done;

@@ -1,5 +1,5 @@
-// Edits of a tree, as people write them: `N1=` or `L4=` and behind it what takes the place of node 1 or leaf 4: texts in
-// quotes, `N0` and `L0` for the new text of a node or leaf, and `n0` and `l0` for the same without its prefix.
+// Edits of a tree, as people write them: `N1=` or `L4=` and behind it what takes the place of node 1 or leaf 4: texts
+// in quotes, `N0` and `L0` for the new text of a node or leaf, and `n0` and `l0` for the same without its prefix.
 ghost use Rattle.std.specs.Prelude.{◌≡◌, ◌≢◌, IsTrue, All, length};
 ghost use Rattle.rw_base.specs.Arena.{end_of};
 ghost use Rattle.rw_base.specs.NewText.{IsSpot, IsItemOf, AreEdits};

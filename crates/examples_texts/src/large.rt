@@ -1,10 +1,10 @@
-// Calls that take memory, with large inputs. The answers are counts, and the checksums of texts, which can be worked out
-// without the program. A case is the name of a call and a number.
+// Calls that take memory, with large inputs. The answers are counts, and the checksums of texts, which can be worked
+// out without the program. A case is the name of a call and a number.
 ghost use Rattle.std.specs.Prelude.{◌≡◌, length, IfSome};
 ghost use Rattle.rw_base.specs.Arena.{end_of};
 
 use crate::codes::put_row;
-use crate::edits::{put_edited, put_printed, push_edit, text_items};
+use crate::edits::{push_edit, put_edited, put_printed, text_items};
 use crate::java::leaves_of;
 use crate::places::put_end;
 use crate::trees::tree_of;

@@ -1,9 +1,9 @@
-//! Worked examples of texts and trees: Java and YAML files cut into leaves, places, tables of rules and what they derive, and the
-//! new texts of trees with edits. The program reads cases and writes each with its answer, and the file `stdout` holds
-//! what it must write (see `examples_base`).
+//! Worked examples of texts and trees: Java and YAML files cut into leaves, places, tables of rules and what they
+//! derive, and the new texts of trees with edits. The program reads cases and writes each with its answer, and the file
+//! `stdout` holds what it must write (see `examples_base`).
 //!
-//! `rules` reads and writes rules, `trees` reads texts by them, and `large` makes calls with large inputs. What is proved
-//! of a call stands in its crate.
+//! `rules` reads and writes rules, `trees` reads texts by them, and `large` makes calls with large inputs. What is
+//! proved of a call stands in its crate.
 #![tactic(auto)]
 
 mod classes;

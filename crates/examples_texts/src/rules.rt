@@ -1,21 +1,26 @@
 // Rules as people write them: `R0 = ID ( COMMA R1 )* END`. A leaf is the name of its class, `R1` is rule 1, `|` stands
-// between alternatives, `(` and `)` around what belongs together, and `?` and `*` behind what may be missing and what is
-// repeated. They are read as codes, in which the number of parts stands before them (`rw_grammar::shapes`): a group's
-// codes are written as its words come, and its number of parts is put before them when it ends.
+// between alternatives, `(` and `)` around what belongs together, and `?` and `*` behind what may be missing and what
+// is repeated. They are read as codes, in which the number of parts stands before them (`rw_grammar::shapes`): a
+// group's codes are written as its words come, and its number of parts is put before them when it ends.
 use crate::classes::{class_name, class_of};
 use examples_base::{Answer, number_in};
 use rw_grammar::Shape;
 use std::alloc::Global;
 
 const LEAF: u16 = 0;
+
 const RULE: u16 = 1;
+
 const ROW: u16 = 2;
+
 const CHOICE: u16 = 3;
+
 const OPTION: u16 = 4;
+
 const MANY: u16 = 5;
 
-// What stands between parentheses so far: where its codes begin, how many alternatives have ended, and where the codes of
-// the row behind them begin and how many parts it has.
+// What stands between parentheses so far: where its codes begin, how many alternatives have ended, and where the codes
+// of the row behind them begin and how many parts it has.
 #[derive(Clone, Copy)]
 struct Group {
     start: usize,

@@ -1,5 +1,5 @@
-// Choices among the methods `p.A.f` of a world. A case is the types of a call's arguments in parentheses, in which `->` is
-// a lambda or a method reference.
+// Choices among the methods `p.A.f` of a world. A case is the types of a call's arguments in parentheses, in which `->`
+// is a lambda or a method reference.
 use crate::questions::put_asks;
 use crate::types::{put_types, two_names, type_in};
 use examples_base::Answer;
@@ -66,7 +66,13 @@ pub fn put_chosen(alloc: Global, world: &ListWorld, case: &str, out: &mut Answer
 }
 
 // Writes which of these methods a call means, and the questions that the choice puts.
-fn put_asked(alloc: Global, world: &ListWorld, candidates: &[MethodSig], args: &[ArgType], out: &mut Answer) {
+fn put_asked(
+    alloc: Global,
+    world: &ListWorld,
+    candidates: &[MethodSig],
+    args: &[ArgType],
+    out: &mut Answer,
+) {
     let mut asks = Asks::new(alloc);
     let choice = choose_asking(alloc, candidates, args, world, &mut asks);
     put_made(candidates, choice, out);

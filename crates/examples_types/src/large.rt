@@ -19,7 +19,13 @@ fn numbered(alloc: Global, front: &str, number: u32, behind: &str, out: &mut Ans
 }
 
 // The world of so many lines, which differ by their numbers.
-fn world_of(alloc: Global, front: &str, count: u32, behind: &str, out: &mut Answer) -> Option<ListWorld> {
+fn world_of(
+    alloc: Global,
+    front: &str,
+    count: u32,
+    behind: &str,
+    out: &mut Answer,
+) -> Option<ListWorld> {
     let mut lines = Vec::new(alloc);
     for k in 0..count {
         if lines.push(numbered(alloc, front, k, behind, out)).is_err() {
@@ -73,7 +79,13 @@ fn put_questions(alloc: Global, count: u32, out: &mut Answer) {
     };
     let mut asks = Asks::new(alloc);
     for k in 0..count.saturating_mul(2) {
-        ask(alloc, &world, k.wrapping_mul(7919) % count.max(1), &mut asks, out);
+        ask(
+            alloc,
+            &world,
+            k.wrapping_mul(7919) % count.max(1),
+            &mut asks,
+            out,
+        );
     }
     put_set(alloc, asks, out);
 }

@@ -1,7 +1,7 @@
-// Worlds of classes, as people write them. Their lines are `class NAME SUPERTYPES..`, the same with `interface`, `enum` and
-// `annotation`, `row COUNT` for classes `p.N0`, `p.N1` and so on, each of which extends the next, `field OWNER NAME TYPE`
-// and `method OWNER NAME TYPES..`. A field or a method is static where `static` stands before its word, and `...` behind
-// a last type is variable arity.
+// Worlds of classes, as people write them. Their lines are `class NAME SUPERTYPES..`, the same with `interface`, `enum`
+// and `annotation`, `row COUNT` for classes `p.N0`, `p.N1` and so on, each of which extends the next, `field OWNER NAME
+// TYPE` and `method OWNER NAME TYPES..`. A field or a method is static where `static` stands before its word, and `...`
+// behind a last type is variable arity.
 use crate::types::{name_in, two_names, type_in};
 use examples_base::{Answer, number_in};
 use jtypes::{ClassKind, FieldSig, Header, JType, ListWorld, MethodSig, Name, SharedList};
