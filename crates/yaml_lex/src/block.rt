@@ -42,8 +42,9 @@ fn has_digit(text: &[u8]) -> bool
     at < text.len() && is_digit(text[at])
 }
 
+/// The digit of the head of a block scalar.
 #[tactic(auto, using(crate::proofs::Heads::digit_by))]
-fn digit_of(text: &[u8]) -> Option<u8>
+pub fn digit_of(text: &[u8]) -> Option<u8>
     requires { 0 < length text.now }
     ensures { result ≡ digit_of text.now }
 {
@@ -110,8 +111,8 @@ fn belongs(least: usize, text: &[u8]) -> bool
     !(is_three(b'-', text) || is_three(b'.', text)) && least <= indentation(text)
 }
 
-// The bytes of LF, CR LF or CR, where one stands.
-fn ending_size(text: &[u8]) -> usize
+/// The bytes of LF, CR LF or CR, where one stands.
+pub fn ending_size(text: &[u8]) -> usize
     ensures value { result ≡ ending_size text.now }
     ensures inside { result ≤ length text.now }
 {

@@ -31,5 +31,9 @@ mod piece;
 mod runs;
 mod scalars;
 
+pub use block::{digit_of, ending_size};
+pub use characters::{is_blank, is_line_end};
 pub use laws::{classes_differ, leaves_are_one, leaves_are_there, leaves_tile};
 pub use leaves::yaml_leaves;
+pub use runs::{indentation, line_size};
+pub use scalars::{begins_plain, ends_plain};

@@ -9,9 +9,9 @@ use crate::characters::{
     is_blank, is_colon_gap, is_flow_sign, is_gap, is_indicator, is_line_end, is_white, needs_more,
 };
 
-// A plain scalar can begin here.
+/// A plain scalar can begin here.
 #[tactic(auto, unfolding(crate::specs::Scalars::begins_plain))]
-fn begins_plain(text: &[u8]) -> bool
+pub fn begins_plain(text: &[u8]) -> bool
     ensures { result ≡ begins_plain text.now }
 {
     match text {
@@ -31,9 +31,9 @@ fn ends_in_flow(text: &[u8]) -> bool
     }
 }
 
-// What ends a plain scalar stands here.
+/// What ends a plain scalar stands here.
 #[tactic(auto, unfolding(crate::specs::Scalars::ends_plain))]
-fn ends_plain(flow: bool, text: &[u8]) -> bool
+pub fn ends_plain(flow: bool, text: &[u8]) -> bool
     ensures { result ≡ ends_plain flow text.now }
 {
     match text {

@@ -1,0 +1,5 @@
+pub mod Kinds
+pub mod Reading
+pub mod Units
+pub mod Calls
+pub mod Walking

@@ -1,0 +1,44 @@
+-- A text as it is written, a byte further.
+use Rattle.std.proofs.Common.{◌≡◌, ℕ, ◌+◌, ◌<◌, ◌≤◌, true, false, List, [], ◌∷◌, ◌++◌, length, get_or, drop, refl, sym, ◌∙◌, ap, append_assoc, append-nil}
+use Rattle.std.specs.Prelude.{Bool, ◌==◌}
+use Rattle.yaml_lex.specs.Scalars.{ends_plain}
+use Rattle.std.proofs.lemmas.Bool.{eq-eqb, ne_eqb}
+use Rattle.std.proofs.lemmas.List.{at_drop_more, at_drop_all, drop_more}
+use Rattle.yaml_texts.specs.Spelled.{doubled, goes_on}
+
+twice : (b : ℕ) (rest : List ℕ) → (b == 39) ≡ true → doubled (b ∷ rest) ≡ b ∷ b ∷ doubled rest
+unfolding doubled
+twice b rest e = rw e refl
+
+pub once : (b : ℕ) (rest : List ℕ) → (b == 39) ≡ false → doubled (b ∷ rest) ≡ b ∷ doubled rest
+unfolding doubled
+once b rest e = rw e refl
+
+pub doubled_quote : (out s : List ℕ) (i : ℕ) → i < length s → get_or s i 0 ≡ 39
+    → out ++ doubled (drop i s) ≡ ((out ++ 39 ∷ []) ++ get_or s i 0 ∷ []) ++ doubled (drop (i + 1) s)
+doubled_quote out s i low e =
+    let rest = doubled (drop (i + 1) s) in
+    ap (λ t. out ++ t) (at_drop_more doubled s i 0 low ∙ (twice (get_or s i 0) (drop (i + 1) s) (eq-eqb (get_or s i 0) 39 e) ∙ ap (λ n. n ∷ get_or s i 0 ∷ rest) e))
+    ∙ (sym (append_assoc out (39 ∷ []) (get_or s i 0 ∷ rest))
+    ∙ sym (append_assoc (out ++ 39 ∷ []) (get_or s i 0 ∷ []) rest))
+
+pub doubled_other : (out s : List ℕ) (i : ℕ) → i < length s → (get_or s i 0 ≡ 39 → ⊥)
+    → out ++ doubled (drop i s) ≡ (out ++ get_or s i 0 ∷ []) ++ doubled (drop (i + 1) s)
+doubled_other out s i low e =
+    ap (λ t. out ++ t) (at_drop_more doubled s i 0 low ∙ once (get_or s i 0) (drop (i + 1) s) (ne_eqb (get_or s i 0) 39 e))
+    ∙ sym (append_assoc out (get_or s i 0 ∷ []) (doubled (drop (i + 1) s)))
+
+pub doubled_end : (out s : List ℕ) (i : ℕ) → length s ≤ i → out ++ doubled (drop i s) ≡ out
+unfolding doubled
+doubled_end out s i past = ap (λ t. out ++ t) (at_drop_all doubled s i past) ∙ append-nil out
+
+-- ---- a text in which nothing ends a plain scalar
+
+goes_first : (flow : Bool) (b : ℕ) (rest : List ℕ) → ends_plain flow (b ∷ rest) ≡ false → goes_on flow (b ∷ rest) ≡ goes_on flow rest
+unfolding goes_on
+goes_first flow b rest e = rw e refl
+
+pub goes_step : (flow : Bool) (s T : List ℕ) (at : ℕ) → at < length s → T ≡ drop at s → ends_plain flow T ≡ false → goes_on flow (drop at s) ≡ goes_on flow (drop (at + 1) s)
+goes_step flow s T at low same e =
+    let here : ends_plain flow (get_or s at 0 ∷ drop (at + 1) s) ≡ false = sym (ap (ends_plain flow) (same ∙ drop_more s at 0 low)) ∙ e in
+    ap (goes_on flow) (drop_more s at 0 low) ∙ goes_first flow (get_or s at 0) (drop (at + 1) s) here

@@ -1,0 +1,5 @@
+pub mod Quoted
+pub mod Texts
+pub mod Spelled
+pub mod Laws
+pub mod Steps
