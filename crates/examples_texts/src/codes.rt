@@ -8,6 +8,7 @@ use rw_grammar::{Shape, shapes};
 use std::alloc::Global;
 
 // Whether codes spell so many shapes and nothing more.
+#[tactic(auto, using(crate::proofs::CodeLemmas::one_spelled, crate::proofs::CodeLemmas::parts_spelled))]
 fn spell(count: usize, codes: &[u16]) -> bool
     ensures { IsTrue result → spells count codes.now ≡ true }
 {
