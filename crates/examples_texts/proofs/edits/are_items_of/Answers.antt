@@ -9,7 +9,7 @@ pub loop-item-preserved : goal.loop-item-preserved
 loop-item-preserved c =
     let P = IsItemOf c.args.tree.now c.args.spot in
     All-more P c.args.items.now c.loop-item.item-index c.item-item.result c.loop-item-test.true c.loop-item.invariant
-        (subst P c.item-item.is (c.is_item_of.ensures c.if-not-is_item_of.false))
+    (subst P c.item-item.is (c.is_item_of.ensures c.if-not-is_item_of.false))
 
 pub returns : goal.returns
 returns c = λ _.
