@@ -1,7 +1,8 @@
 // Properties files: their leaves, what their entries say, and how keys and values are spelled.
 ghost use Rattle.std.specs.Prelude.{◌≡◌, ◌<◌, length, IfSome};
 ghost use Rattle.rw_base.specs.Arena.{end_of};
-ghost use Rattle.properties_tree.specs.Layout.{tree_of, properties_of};
+ghost use Rattle.properties_tree.specs.Entries.{properties_of};
+ghost use Rattle.properties_tree.specs.Layout.{tree_of};
 
 use examples_base::{Answer, Words};
 use properties_tree::{
