@@ -1,9 +1,9 @@
 //! Worked examples of reading Java: what files, members and expressions are read into or why they are refused, the
-//! units of files, and their calls. The program reads cases and writes each with its answer, and the file `stdout` holds
-//! what it must write (see `examples_base`).
+//! units of files, and their calls. The program reads cases and writes each with its answer, and the file `stdout`
+//! holds what it must write (see `examples_base`).
 //!
-//! `reads` calls the reader, `trees` writes what it gives, and `units` what is in a file. What is proved of a call stands
-//! in `java_reader`.
+//! `reads` calls the reader, `trees` writes what it gives, and `units` what is in a file. What is proved of a call
+//! stands in `java_reader`.
 #![tactic(auto)]
 
 mod reads;
