@@ -2,3 +2,9 @@ pub mod FourWords
 pub mod Refusals
 pub mod After
 pub mod Outcomes
+pub mod Answering
+pub mod FoundInFile
+pub mod WorkerCounts
+pub mod CheckWords
+pub mod Walked
+pub mod Asked

@@ -11,7 +11,7 @@ use Rattle.rw_host.specs.Files.{Files, SameElsewhere, first_bytes}
 use Rattle.rw_host.specs.FileLaws.{all_bytes, length-first_bytes}
 use Rattle.rw_base.specs.declared.leaves.TheConstants.{MOST_BYTES}
 use Rattle.rewrite_cli.specs.declared.changes.Change.{Change}
-use Rattle.rewrite_cli.specs.Paths.{is_properties}
+use Rattle.rewrite_cli.specs.Renaming.{is_properties}
 use Rattle.properties_tree.specs.declared.option.PropertiesChangePropertyKey.{PropertiesChangePropertyKey}
 use Rattle.rewrite_cli.specs.Renaming.{accepted_renaming, is_refused, bytes_after}
 use Rattle.rewrite_cli.specs.Changes.{PathChange, change_at, is_refused_at, put_all, IsPart}

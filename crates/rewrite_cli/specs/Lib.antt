@@ -1,7 +1,10 @@
 pub mod Words
-pub mod Paths
+pub mod Sources
+pub mod Limits
 pub mod Renaming
 pub mod Changes
+pub mod Checking
+pub mod Answers
+pub mod Statuses
 pub mod Outcomes
 pub mod Pairs
-pub mod Statuses

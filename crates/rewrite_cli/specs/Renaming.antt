@@ -1,12 +1,22 @@
 -- What a run makes of a file.
-use Rattle.std.specs.Prelude.{ℕ, Bool, ◌||◌, ◌&&◌, nat_lt, List, length, if◌then◌else◌}
+use Rattle.std.specs.Prelude.{ℕ, Bool, true, false, ◌||◌, ◌&&◌, nat_lt, List, length, if◌then◌else◌}
 use Rattle.std.specs.Prelude.{Option, None, Some, is_none, unwrap_or}
 use Rattle.rw_base.specs.NewText.{new_text}
 use Rattle.properties_tree.specs.declared.option.PropertiesChangePropertyKey.{PropertiesChangePropertyKey}
 use Rattle.rw_base.specs.declared.leaves.TheConstants.{MOST_BYTES}
 use Rattle.properties_tree.specs.Layout.{tree_of}
 use Rattle.conf_recipes.specs.PropertiesEdits.{edits_of}
-use Rattle.rewrite_cli.specs.Paths.{is_properties}
+use Rattle.kept_files.specs.declared.kind.FileKind.{FileKind}
+use Rattle.kept_files.specs.declared.kind.FileKind.TheVariants.{Properties}
+use Rattle.kept_files.specs.Kinds.{kind_of}
+
+abbrev pub is_for_properties : FileKind → Bool
+is_for_properties Properties = true
+is_for_properties _ = false
+
+-- whether a path is that of a properties source file
+unfoldable pub is_properties : List ℕ → Bool
+is_properties path = is_for_properties (kind_of path)
 
 -- the bytes of a properties file with the recipe's edits
 unfoldable pub renaming_of : PropertiesChangePropertyKey → List ℕ → List ℕ

@@ -3,14 +3,13 @@ ghost use Rattle.std.specs.Prelude.{◌≡◌, ◌≢◌, ◌≤◌, ◌++◌, �
 ghost use Rattle.std.specs.Prelude.{vec_len};
 ghost use Rattle.std.specs.FinMap as map;
 ghost use Rattle.rw_host.specs.Files.{Rose};
-ghost use Rattle.rewrite_cli.specs.Paths.{is_properties};
+ghost use Rattle.rewrite_cli.specs.Renaming.{is_properties};
 ghost use Rattle.rewrite_cli.specs.Changes.{change_at, changes_at, is_refused_at, any_refused, put_all, IsPart};
 ghost use Rattle.rewrite_cli.specs.Pairs.{pairs};
 
-use crate::paths::is_properties;
-use crate::renaming::{Outcome, outcome_of};
+use crate::renaming::{Outcome, is_properties, outcome_of};
+use crate::sources::MOST_READ;
 use properties_tree::PropertiesChangePropertyKey;
-use rw_base::MOST_BYTES;
 use rw_host::{Failed, PathText, Store, StoreFault};
 use std::alloc::Global;
 
@@ -27,9 +26,6 @@ pub struct Found {
     pub changes: Vec<Change>,
     pub any_refused: bool,
 }
-
-// One byte more than a file may have, so that a file that is too large is seen to be.
-const MOST_READ: u32 = MOST_BYTES as u32 + 1;
 
 // Notes what the run makes of a properties file.
 #[tactic(auto, using(crate::proofs::Refusals::judged))]

@@ -1,30 +1,37 @@
-//! The program: renames a key in the properties files of the current folder.
+//! The program: renames a key in the properties files of the current folder, or tells which files aren't read.
 //!
 //! ```text
 //! rewrite run org.openrewrite.properties.ChangePropertyKey shop.mail.host shop.mail.server
+//! rewrite check
 //! ```
 //!
 //! `main` hands the words, the real folder and standard output to the call `rewrite`, which is written for any store
-//! and answers the exit status. After status 0 or 1 each path has exactly what the definition gives of the file that it
-//! had (`rewrite`, clause `files`), 1 comes exactly where a properties file is refused (`refused`, `done`), and 2
-//! exactly where the words are others (`usage`). At 4, 6 and 8 no file has changed (`unchanged`), and at 5 the first
-//! changes, in the order of their paths, were made (`part`).
+//! and sink and answers the exit status. What a command answers over a repository is one definition, `answer`: the
+//! status, the text and what each path then has. Where no fault comes in between, the status is that of the answer
+//! (`rewrite`, clause `status`), each path has what the answer leaves (`files`), and its text was put (`text`). 2 comes
+//! exactly where the words are others (`usage`). 4, 5 and 7 come only where a count of faults rose (`read_fault`,
+//! `write_fault`, `sink_fault`); at 4 and 6 no file has changed (`unchanged`), and at 5 the first changes, in the order
+//! of their paths, were made (`part`).
 //!
-//! Definitions, in this order: `Words` (what the words ask for), `Paths` (which files are read), `Renaming` (the new
-//! bytes of one file), `Changes` (a whole run, and a run that was stopped), `Statuses`. `Outcomes` and `Pairs` serve
-//! private functions alone.
+//! Definitions, in this order: `Words` (what the words ask for), `Sources` and `Limits` (which files are read, and how
+//! many there may be), `Renaming` and `Changes` (a run, and one that was stopped), `Checking` (the text of `check`),
+//! `Answers`, `Statuses`. `Outcomes` and `Pairs` serve private functions alone.
 #![tactic(auto)]
 
 mod changes;
-mod paths;
+mod checking;
+mod limits;
 mod renaming;
 mod rewrite;
-mod status;
+mod running;
+mod sources;
+mod stop;
 #[cfg(test)]
 mod tests;
+mod words;
 
 use crate::rewrite::rewrite;
-use crate::status::{NO_MEMORY, USAGE};
+use crate::stop::NO_MEMORY;
 use rw_base::Mem;
 use rw_host::{FolderStore, OpenGate, StdSink};
 use std::alloc::Global;
@@ -32,12 +39,12 @@ use std::env::Env;
 use std::io::ErrorKind;
 use std::process::ExitCode;
 
-// The words behind the program's name.
+// The words behind the program's name. Where some word isn't UTF-8 there are none: they ask for no command either.
 fn words_of<R: Env + AllocGlobal>(rt: &R, alloc: Global) -> Result<Vec<String>, u8> {
     let words = match std::env::args(rt) {
         Ok(words) => words,
         Err(e) if e.kind() == ErrorKind::OutOfMemory => return Err(NO_MEMORY),
-        Err(_) => return Err(USAGE),
+        Err(_) => return Ok(Vec::new(alloc)),
     };
     words.skip(1).collect(alloc).map_err(|_| NO_MEMORY)
 }

@@ -1,10 +1,11 @@
 // What a run makes of one properties file.
 ghost use Rattle.std.specs.Prelude.{◌≡◌, IfOk};
 ghost use Rattle.std.specs.Str.{bytes_eq};
-ghost use Rattle.rewrite_cli.specs.Renaming.{accepted_renaming};
+ghost use Rattle.rewrite_cli.specs.Renaming.{accepted_renaming, is_properties};
 ghost use Rattle.rewrite_cli.specs.Outcomes.{bytes_told, IsOther};
 
 use conf_recipes::renamed_in_properties;
+use kept_files::{FileKind, kind_of};
 use properties_tree::PropertiesChangePropertyKey;
 use rw_base::{MOST_BYTES, Mem};
 use std::alloc::Global;
@@ -18,6 +19,17 @@ pub enum Outcome {
     Kept,
     /// It gets these bytes, which are other ones.
     Changed(Vec<u8>),
+}
+
+/// Whether the path is that of a properties source file.
+#[tactic(auto, unfolding(crate::specs::Renaming::is_properties))]
+pub fn is_properties(path: &str) -> bool
+    ensures { result ≡ is_properties path.now }
+{
+    match kind_of(path) {
+        FileKind::Properties => true,
+        _ => false,
+    }
 }
 
 pub fn is_same(a: &[u8], b: &[u8]) -> bool

@@ -1,169 +1,137 @@
 // The top call.
-ghost use Rattle.std.specs.Prelude.{◌≡◌, ◌≢◌, ◌≤◌, ◌<◌, ◌⊎◌, ◌↔◌, ℕ, IsTrue, true, false, Some, None, Option};
-ghost use Rattle.std.specs.Prelude.{IsNone, IfOk, IfSome, map as map_list, string_bytes};
-ghost use Rattle.std.specs.Option.{option_map};
-ghost use Rattle.std.specs.FinMap as map;
-ghost use Rattle.rw_host.specs.Files.{Files, Rose};
-ghost use Rattle.rewrite_cli.specs.Words.{keys_of, options_of, options_in};
-ghost use Rattle.rewrite_cli.specs.Changes.{AreRewritten, refuses_some, changes_of, IsPart};
-ghost use Rattle.rewrite_cli.specs.Statuses.{status_of, IsStatus};
+ghost use Rattle.std.specs.Prelude.{◌≡◌, ◌≢◌, ◌≤◌, ◌⊎◌, ◌↔◌, ◌++◌, IsTrue, Some, None, Ok, Err, IfSome, IsNone};
+ghost use Rattle.std.specs.Prelude.{IsOk, OnOk, Result, map as map_list, string_bytes};
+ghost use Rattle.rw_host.specs.Files.{Rose};
+ghost use Rattle.rw_host.specs.Sink.{PutsPrefix};
+ghost use Rattle.kept_files.specs.Readings.{AreReadings, Reads};
+ghost use Rattle.rewrite_cli.specs.Words.{Command, command_of, options_in};
+ghost use Rattle.rewrite_cli.specs.Changes.{changes_of, IsPart};
+ghost use Rattle.rewrite_cli.specs.Answers.{AreLeft, IsPut, answer, fault_line};
+ghost use Rattle.rewrite_cli.specs.Statuses.{IsStatus, NamesNoFault, status_of, text_of};
 
-use crate::changes::{Found, find_changes, write_changes};
-use crate::renaming::is_same;
-use crate::status::{DONE, LIMIT, NO_MEMORY, READ_FAULT, REFUSED, USAGE, WRITE_FAULT};
-use properties_tree::PropertiesChangePropertyKey;
-use rw_base::{Mem, Text};
-use rw_host::{Gate, Sink, Store, StoreFault};
+use crate::checking::check_repository;
+use crate::running::{options_of, rename};
+use crate::stop::{Done, OUTPUT_FAULT, Stop, USAGE, USAGE_LINE};
+use crate::words::{is_check, keys_of};
+use rw_host::{Gate, Sink, Store};
 use std::alloc::Global;
 
-// How many paths a store may have.
-const MOST_PATHS: u32 = 100_000;
-
-// The status that a fault of `list`, `read` or `reserve` ends a run with.
-fn status_of(fault: StoreFault) -> u8
-    ensures { result ≡ status_of fault }
+// Puts the line of a status. Where the sink fails, the status stays.
+fn say<K: Sink>(out: &mut K, line: &[u8])
+    ensures { IsTrue K.tells_bytes →
+        IsPut (Rose (K.faults out.old) (K.faults out.new)) line.now (K.bytes_put out.old) (K.bytes_put out.new) }
 {
-    match fault {
-        StoreFault::Failed => READ_FAULT,
-        StoreFault::TooMany => LIMIT,
-        StoreFault::NoMemory => NO_MEMORY,
-    }
+    let _ = out.put(line);
 }
 
-// Renames the key in each properties file of the store.
-#[tactic(auto, using(crate::proofs::After::ran))]
-fn run<S: Store>(alloc: Global, store: &mut S, options: &PropertiesChangePropertyKey) -> u8
-    ensures files { IsTrue S.tells_files → result ≤ 1 →
-        AreRewritten options.now (S.files store.old) (S.files store.new) }
-    ensures refused { IsTrue S.tells_files → result ≡ 1 → refuses_some options.now (S.files store.old) ≡ true }
-    ensures done { IsTrue S.tells_files → result ≡ 0 → refuses_some options.now (S.files store.old) ≡ false }
-    ensures part { IsTrue S.tells_files → result ≡ 5 →
-        IsPart (changes_of options.now (S.files store.old)) (S.files store.old) (S.files store.new) }
-    ensures read_fault { result ≡ 4 → Rose (S.read_faults store.old) (S.read_faults store.new) }
-    ensures write_fault { result ≡ 5 → Rose (S.write_faults store.old) (S.write_faults store.new) }
-    ensures past_limit { IsTrue S.tells_files → result ≡ 8 → 100000 < map.len (S.files store.old) }
-    ensures in_limit { IsTrue S.tells_files → (result ≤ 1 ⊎ result ≡ 5) → map.len (S.files store.old) ≤ 100000 }
-    ensures unchanged { (result ≡ 4 ⊎ result ≡ 6 ⊎ result ≡ 8) → S.files store.new ≡ S.files store.old }
+// Puts what a command tells, and gives the exit status.
+fn tell<K: Sink>(out: &mut K, ended: Result<Done, Stop>) -> u8
+    ensures status { result ≢ 7 → result ≡ status_of ended }
+    ensures whole { IsTrue K.tells_bytes → result ≤ 1 →
+        K.bytes_put out.new ≡ K.bytes_put out.old ++ text_of ended }
+    ensures line { IsTrue K.tells_bytes → result ≢ 7 →
+        IsPut (Rose (K.faults out.old) (K.faults out.new)) (text_of ended) (K.bytes_put out.old) (K.bytes_put out.new) }
+    ensures cut { result ≡ 7 → IsOk ended }
+    ensures front { IsTrue K.tells_bytes → result ≡ 7 →
+        PutsPrefix (K.bytes_put out.old) (text_of ended) (K.bytes_put out.new) }
+    ensures sink_fault { result ≡ 7 → Rose (K.faults out.old) (K.faults out.new) }
     ensures not_usage { result ≢ 2 }
-    ensures status { IsStatus result }
 {
-    let paths = match store.list(alloc, MOST_PATHS) {
-        Ok(paths) => paths,
-        Err(fault) => return status_of(fault),
-    };
-    let found = match find_changes(alloc, store, paths, options) {
-        Ok(found) => found,
-        Err(fault) => return status_of(fault),
-    };
-    let Ok(count) = u32::try_from(found.changes.len()) else {
-        return NO_MEMORY;
-    };
-    if let Err(fault) = store.reserve(count) {
-        return status_of(fault);
-    }
-    let Found {
-        changes,
-        any_refused,
-    } = found;
-    if write_changes(store, changes).is_err() {
-        return WRITE_FAULT;
-    }
-    if count > 0 && store.sync().is_err() {
-        return WRITE_FAULT;
-    }
-    if any_refused { REFUSED } else { DONE }
-}
-
-// The old and the new key, where the words are those of a run.
-#[tactic(auto, using(crate::proofs::FourWords::other_count))]
-fn keys_of(words: &[String]) -> Option<(&[u8], &[u8])>
-    ensures { option_map (λ keys. (keys.0.now, keys.1.now)) result ≡ keys_of (map_list string_bytes words.now) }
-{
-    if words.len() != 4 {
-        return None;
-    }
-    let command = words[0].as_bytes();
-    let recipe = words[1].as_bytes();
-    let old = words[2].as_bytes();
-    let new = words[3].as_bytes();
-    if is_same(command, b"run")
-        && is_same(recipe, b"org.openrewrite.properties.ChangePropertyKey")
-    {
-        Some((old, new))
-    } else {
-        None
+    match ended {
+        Ok(done) => {
+            if !done.text.is_empty() && out.put(&done.text).is_err() {
+                return OUTPUT_FAULT;
+            }
+            done.status()
+        }
+        Err(stop) => {
+            say(out, stop.line());
+            stop.status()
+        }
     }
 }
 
-// The options of the recipe that renames one key to another.
-fn options_of(alloc: Global, old: &[u8], new: &[u8]) -> Mem<PropertiesChangePropertyKey>
-    ensures { IfOk result (λ options. options ≡ options_of old.now new.now) }
-{
-    Ok(PropertiesChangePropertyKey {
-        old_property_key: Text::from_slice(alloc, old)?,
-        new_property_key: Text::from_slice(alloc, new)?,
-    })
-}
-
-/// Does what the words say with the files of the store, and answers the exit status. The words
-/// `run org.openrewrite.properties.ChangePropertyKey OLD NEW` rename the key OLD to NEW in each properties file.
+/// Does what the words say with the files of the store, puts the text, and answers the exit status.
 ///
-/// | status | when |
+/// | words | what is done |
 /// |---|---|
-/// | 0 | done |
-/// | 1 | done, but a properties file of more than 2,097,152 bytes, before or after, kept its bytes |
-/// | 2 | the words are others; the store isn't used |
-/// | 4 | the store failed to list or read |
-/// | 5 | the store failed to write or sync |
-/// | 6 | the system refused memory |
-/// | 8 | there are more than 100,000 paths |
+/// | `run org.openrewrite.properties.ChangePropertyKey OLD NEW` | the key OLD becomes NEW in each properties file |
+/// | `check`, `check --workers N`, `check --workers=N` | each Java, YAML and properties file is read, and nothing is written |
+///
+/// | status | when | text |
+/// |---|---|---|
+/// | 0 | done, no file is refused | of `check`: `files N` |
+/// | 1 | done, some file is refused and keeps its bytes | the same, and `refused PATH L:C CAUSE` for each |
+/// | 2 | the words are others; the store isn't used | the usage line |
+/// | 4 | the store failed to list or read | `read fault` |
+/// | 5 | the store failed to write or sync | `write fault` |
+/// | 6 | the system refused memory | none |
+/// | 7 | done, but the text didn't go out whole | the first part of it |
+/// | 8 | there are more than 100,000 paths; of `check`: 10,000 files or 67,108,864 bytes | `limit: paths more than 100000` |
 pub fn rewrite<S: Store, K: Sink, G: Gate>(
     alloc: Global,
     words: &[String],
     store: &mut S,
-    _out: &mut K,
+    out: &mut K,
     _gate: &G,
 ) -> u8
-    // 2 comes exactly where the words aren't those of a run.
-    ensures usage { result ≡ 2 ↔ IsNone (options_in (map_list string_bytes words.now)) }
+    // 2 comes exactly where the words aren't those of a command.
+    ensures usage { result ≡ 2 ↔ IsNone (command_of (map_list string_bytes words.now)) }
     ensures unused { result ≡ 2 → store.new ≡ store.old }
 
-    // After 0 or 1 each path has what the definition gives of the file that it had.
-    ensures files { IsTrue S.tells_files → result ≤ 1 →
-        IfSome (options_in (map_list string_bytes words.now)) (λ options.
-        AreRewritten options (S.files store.old) (S.files store.new)) }
+    // Where no fault comes in between, the status is that of the answer, and each path has what the answer leaves.
+    ensures status { IsTrue S.tells_files → (read : Reads) → AreReadings read → (command : Command) →
+        command_of (map_list string_bytes words.now) ≡ Some command → NamesNoFault result →
+        result ≡ (answer read (S.files store.old) command).status }
+    ensures files { IsTrue S.tells_files → (read : Reads) → AreReadings read → (command : Command) →
+        command_of (map_list string_bytes words.now) ≡ Some command → NamesNoFault result ⊎ result ≡ 7 →
+        AreLeft (answer read (S.files store.old) command) (S.files store.new) }
 
-    // 1 comes in place of 0 exactly where a properties file is refused.
-    ensures refused { IsTrue S.tells_files → result ≡ 1 →
-        IfSome (options_in (map_list string_bytes words.now)) (λ options.
-        refuses_some options (S.files store.old) ≡ true) }
-    ensures done { IsTrue S.tells_files → result ≡ 0 →
-        IfSome (options_in (map_list string_bytes words.now)) (λ options.
-        refuses_some options (S.files store.old) ≡ false) }
+    // The text is that of the answer: whole at 0 and 1.
+    ensures text { IsTrue S.tells_files → IsTrue K.tells_bytes → (read : Reads) → AreReadings read →
+        (command : Command) → command_of (map_list string_bytes words.now) ≡ Some command → result ≤ 1 →
+        K.bytes_put out.new ≡ K.bytes_put out.old ++ (answer read (S.files store.old) command).text }
+    ensures limit_text { IsTrue S.tells_files → IsTrue K.tells_bytes → (read : Reads) → AreReadings read →
+        (command : Command) → command_of (map_list string_bytes words.now) ≡ Some command → result ≡ 8 →
+        IsPut (Rose (K.faults out.old) (K.faults out.new)) (answer read (S.files store.old) command).text
+        (K.bytes_put out.old) (K.bytes_put out.new) }
 
-    // 8 comes exactly where there are too many paths: no work is then done.
-    ensures past_limit { IsTrue S.tells_files → result ≡ 8 → 100000 < map.len (S.files store.old) }
-    ensures in_limit { IsTrue S.tells_files → (result ≤ 1 ⊎ result ≡ 5) → map.len (S.files store.old) ≤ 100000 }
+    // 7 comes only where the sink's own count rose, and the work was done. The first part of the text was put.
+    ensures sink_fault { result ≡ 7 → Rose (K.faults out.old) (K.faults out.new) }
+    ensures done { IsTrue S.tells_files → (read : Reads) → AreReadings read → (command : Command) →
+        command_of (map_list string_bytes words.now) ≡ Some command → result ≡ 7 →
+        (answer read (S.files store.old) command).status ≤ 1 }
+    ensures cut_text { IsTrue S.tells_files → IsTrue K.tells_bytes → (read : Reads) → AreReadings read →
+        (command : Command) → command_of (map_list string_bytes words.now) ≡ Some command → result ≡ 7 →
+        PutsPrefix (K.bytes_put out.old) (answer read (S.files store.old) command).text (K.bytes_put out.new) }
 
     // 4 and 5 come only where the store's own count rose in this call.
     ensures read_fault { result ≡ 4 → Rose (S.read_faults store.old) (S.read_faults store.new) }
     ensures write_fault { result ≡ 5 → Rose (S.write_faults store.old) (S.write_faults store.new) }
 
-    // At 4, 6 and 8 no file has changed; at 5 the first of the changes were made.
-    ensures unchanged { (result ≡ 4 ⊎ result ≡ 6 ⊎ result ≡ 8) → S.files store.new ≡ S.files store.old }
+    // At 2, 4 and 5 the status's own line was put, or a part of it where the sink failed, and at 6 nothing.
+    ensures fault_text { IsTrue K.tells_bytes → result ≡ 2 ⊎ result ≡ 4 ⊎ result ≡ 5 ⊎ result ≡ 6 →
+        IsPut (Rose (K.faults out.old) (K.faults out.new)) (fault_line result) (K.bytes_put out.old)
+        (K.bytes_put out.new) }
+
+    // At 4 and 6 no file has changed; at 5 the first of the changes were made.
+    ensures unchanged { result ≡ 4 ⊎ result ≡ 6 → S.files store.new ≡ S.files store.old }
     ensures part { IsTrue S.tells_files → result ≡ 5 →
         IfSome (options_in (map_list string_bytes words.now)) (λ options.
         IsPart (changes_of options (S.files store.old)) (S.files store.old) (S.files store.new)) }
 
-    // Nothing else is answered, and nothing is printed.
-    ensures status { IsStatus result }
-    ensures silent { _out.new ≡ _out.old }
+    // Nothing else is answered.
+    ensures known { IsStatus result }
 {
+    if is_check(words) {
+        return tell(out, check_repository(alloc, store));
+    }
     let Some((old, new)) = keys_of(words) else {
+        say(out, USAGE_LINE);
         return USAGE;
     };
     match options_of(alloc, old, new) {
-        Ok(options) => run(alloc, store, &options),
-        Err(_) => NO_MEMORY,
+        Ok(options) => tell(out, rename(alloc, store, &options)),
+        Err(_) => tell(out, Err(Stop::NoMemory)),
     }
 }

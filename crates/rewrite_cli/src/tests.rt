@@ -50,17 +50,25 @@ fn has(alloc: Global, store: &mut MemoryStore, name: &str, bytes: &[u8]) -> Resu
     }
 }
 
+fn words_of(alloc: Global, texts: &[&str]) -> Result<Vec<String>, Fail> {
+    let mut words = Vec::new(alloc);
+    for text in texts {
+        words.push(String::from_str(alloc, text)?)?;
+    }
+    Ok(words)
+}
+
 // What a run over that store answers, and how many of the properties files, from the first on, have the new key then.
 fn run_failing_at(alloc: Global, call: u32) -> Result<(u8, usize), Fail> {
-    let mut words = Vec::new(alloc);
-    for word in [
-        "run",
-        "org.openrewrite.properties.ChangePropertyKey",
-        "old",
-        "new",
-    ] {
-        words.push(String::from_str(alloc, word)?)?;
-    }
+    let words = words_of(
+        alloc,
+        &[
+            "run",
+            "org.openrewrite.properties.ChangePropertyKey",
+            "old",
+            "new",
+        ],
+    )?;
     let mut store = store_failing_at(alloc, call)?;
     let mut out = MemorySink::with_room(alloc, 0)?;
     let status = rewrite(alloc, &words, &mut store, &mut out, &OpenGate);
@@ -95,6 +103,35 @@ fn each_call_that_fails_is_told(rt: HostRuntime) -> Result<(), Fail> {
     for (name, call, status, renamed) in table {
         let told = run_failing_at(rt.alloc(), call)?;
         assert_eq!(rt; told, (status, renamed), "where {name} fails");
+    }
+    Ok(())
+}
+
+// Whether `check` over that store, into a sink of this room, answers this status and puts this text.
+fn checks(alloc: Global, call: u32, room: u32, status: u8, text: &[u8]) -> Result<bool, Fail> {
+    let words = words_of(alloc, &["check", "--workers", "64"])?;
+    let mut store = store_failing_at(alloc, call)?;
+    let mut out = MemorySink::with_room(alloc, room)?;
+    let answered = rewrite(alloc, &words, &mut store, &mut out, &OpenGate);
+    Ok(answered == status && out.bytes() == text)
+}
+
+#[test]
+fn check_tells_what_fails(rt: HostRuntime) -> Result<(), Fail> {
+    let all: &[u8] = b"files 5\nrefused b/D.java 1:1 Unexpected\n";
+    let table: [(&str, u32, u32, u8, &[u8]); 6] = [
+        ("list", 1, 100, 4, b"read fault\n"),
+        ("the last read", 5, 100, 4, b"read fault\n"),
+        ("list, without room for the line", 1, 5, 4, b""),
+        ("no call", 99, 100, 1, all),
+        ("no call, with just room", 99, 40, 1, all),
+        ("the sink", 99, 39, 7, b""),
+    ];
+    for (name, call, room, status, text) in table {
+        assert!(rt;
+            checks(rt.alloc(), call, room, status, text)?,
+            "where {name} fails"
+        );
     }
     Ok(())
 }

@@ -3,8 +3,8 @@ use Rattle.std.specs.Prelude.{◌==◌}
 use Rattle.std.proofs.lemmas.Bool.Decides.{nat_tests}
 use Rattle.std.proofs.lemmas.Iterator.Search.{any_from_yields_List}
 use Rattle.std.proofs.lemmas.Iterator.Splits.{YieldsList-from_slice_split}
-use Rattle.rewrite_cli.specs.Paths.{begins_with_dot}
-use Rattle.rewrite_cli.proofs.paths.is_hidden.Goals as goal
+use Rattle.kept_files.specs.Kinds.{begins_with_dot}
+use Rattle.kept_files.proofs.kind.is_hidden.Goals as goal
 
 -- `split` gives the parts, and `any` tests each
 pub returns : goal.returns

@@ -1,8 +1,8 @@
 use Rattle.std.proofs.Common.{map, string_bytes, sym, ◌∙◌}
 use Rattle.std.proofs.lemmas.List.{length-map}
 use Rattle.rewrite_cli.proofs.FourWords.{taken_at, other_command_at, other_recipe_at, other_count}
-use Rattle.rewrite_cli.proofs.rewrite.keys_of.Goals as goal
-use Rattle.rewrite_cli.proofs.rewrite.keys_of.Goals.{else-is_same-via-then-is_same+else-is_same-2, else-is_same-via-else-is_same}
+use Rattle.rewrite_cli.proofs.words.keys_of.Goals as goal
+use Rattle.rewrite_cli.proofs.words.keys_of.Goals.{else-is_same-via-then-is_same+else-is_same-2, else-is_same-via-else-is_same}
 
 pub returns-then-words-ne4 : goal.returns-then-words-ne4
 returns-then-words-ne4 c = sym (other_count (map string_bytes c.args.words.now) (λ e. c.if-words-ne4.true (sym (length-map c.args.words.now string_bytes) ∙ e)))

@@ -1,0 +1,24 @@
+//! The files of a repository: their kinds, and what they read as.
+//!
+//! ```text
+//! let readers = Readers::new(alloc)?;                          // the tables are checked once
+//! if kind_of(path) != FileKind::Other {
+//!     let reading = readers.read_file(alloc, path, bytes, &mut steps)?;
+//! }
+//! ```
+//!
+//! The promise. A file has the kind of the definition (`kind_of`), and what it reads as is in the relation `IsReading`
+//! of its path and bytes (`read_file`, clause `reading`); it takes the steps of its kind (`steps`, `at_most`). A file
+//! reads as one thing (`a_file_reads_as_one_thing`), so that crates above may speak of what a file reads as as of a
+//! function `read` that is told by `AreReadings` alone (`read_file`, clause `same`).
+//!
+//! The definitions in specs/: `Kinds` (kinds by paths), `Readings` (what a file reads as).
+#![tactic(auto)]
+
+mod kind;
+mod laws;
+mod readers;
+
+pub use kind::{FileKind, kind_of};
+pub use laws::a_file_reads_as_one_thing;
+pub use readers::Readers;

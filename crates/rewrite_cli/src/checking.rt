@@ -1,0 +1,217 @@
+// What `check` tells of a repository.
+ghost use Rattle.std.specs.Prelude.{◌≡◌, ◌≢◌, ◌≤◌, ◌<◌, ◌+◌, ◌++◌, ◌||◌, IsTrue, IfOk, OnOk, Err, Some, is_some, decimal};
+ghost use Rattle.rw_host.specs.Files.{Rose};
+ghost use Rattle.kept_files.specs.Readings.{AreReadings, Reads};
+ghost use Rattle.rewrite_cli.specs.Sources.{bytes_at, bytes_read};
+ghost use Rattle.rewrite_cli.specs.Checking.{any_refused, count_line, line_of, lines, name_of, refusal_at, refusal_in};
+ghost use Rattle.rewrite_cli.specs.Checking.{refused_line};
+ghost use Rattle.rewrite_cli.specs.Answers.{answer};
+ghost use Rattle.rewrite_cli.specs.Statuses.{IsAnswered};
+ghost use Rattle.rewrite_cli.specs.Words.{check};
+
+use crate::limits::{Limit, MOST_FILES, MOST_IN_ALL, MOST_PATHS};
+use crate::sources::{MOST_READ, count_read, is_read};
+use crate::stop::{Done, Stop};
+use itoa::Buffer;
+use kept_files::Readers;
+use rw_base::{Cause, Mem, Reading, Refused};
+use rw_host::{PathText, Steps, Store};
+use std::alloc::Global;
+use std::marker::Brand;
+use std::sync::ledger::{Blank, Ledger};
+
+// What was found in the files that were read so far.
+#[derive(Drop)]
+struct Findings {
+    text: Vec<u8>,
+    any_refused: bool,
+    bytes: u64,
+}
+
+fn name_of(cause: Cause) -> &'static [u8]
+    ensures { result.now ≡ name_of cause }
+{
+    match cause {
+        Cause::NotUtf8 => b"NotUtf8",
+        Cause::BadLeaf => b"BadLeaf",
+        Cause::Unexpected => b"Unexpected",
+        Cause::Unfinished => b"Unfinished",
+        Cause::TooLarge => b"TooLarge",
+        Cause::TooDeep => b"TooDeep",
+    }
+}
+
+fn put_number(text: &mut Vec<u8>, number: u64) -> Mem<()>
+    ensures { OnOk result (text.new.items ≡ text.old.items ++ decimal number) }
+{
+    let mut buffer = Buffer::new();
+    text.extend_from_slice(buffer.format(number).as_bytes())?;
+    Ok(())
+}
+
+// The line of the number of files that are read.
+#[tactic(auto, unfolding(crate::specs::Checking::count_line))]
+fn count_line(alloc: Global, count: usize) -> Mem<Vec<u8>>
+    ensures { IfOk result (λ line. line.items ≡ count_line count) }
+{
+    let mut line = Vec::from_slice(alloc, b"files ")?;
+    put_number(&mut line, count as u64)?;
+    line.extend_from_slice(b"\n")?;
+    Ok(line)
+}
+
+// Appends the line of a file that is refused.
+#[tactic(auto, using(crate::proofs::FoundInFile::joined))]
+fn put_refusal(text: &mut Vec<u8>, path: &str, refused: &Refused) -> Mem<()>
+    ensures { OnOk result (text.new.items ≡ text.old.items ++ refused_line path.now refused.now) }
+{
+    text.extend_from_slice(b"refused ")?;
+    text.extend_from_slice(path.as_bytes())?;
+    text.extend_from_slice(b" ")?;
+    put_number(text, refused.place.line as u64)?;
+    text.extend_from_slice(b":")?;
+    put_number(text, refused.place.column as u64)?;
+    text.extend_from_slice(b" ")?;
+    text.extend_from_slice(name_of(refused.cause))?;
+    text.extend_from_slice(b"\n")?;
+    Ok(())
+}
+
+// Why a file is refused, if it is, by what it reads as.
+fn refusal_in(reading: Reading) -> Option<Refused>
+    ensures { result ≡ refusal_in reading }
+{
+    match reading {
+        Reading::Refused(refused) => Some(refused),
+        _ => None,
+    }
+}
+
+// Why a file of these bytes is refused, if it is.
+fn refusal_of<L: Ledger>(
+    alloc: Global,
+    readers: &Readers,
+    path: &str,
+    bytes: &[u8],
+    steps: &mut Steps<L>,
+) -> Mem<Option<Refused>>
+    ensures { (read : Reads) → AreReadings read →
+        IfOk result (λ refusal. refusal ≡ refusal_in (read path.now (Some bytes.now))) }
+{
+    let reading = readers.read_file(alloc, path, bytes, steps)?;
+    Ok(refusal_in(reading))
+}
+
+// Notes whether a file is refused.
+fn note_refusal(findings: &mut Findings, path: &str, refusal: Option<Refused>) -> Mem<()>
+    ensures text { OnOk result (findings.new.text.items ≡ findings.old.text.items ++ line_of path.now refusal) }
+    ensures refused { OnOk result (findings.new.any_refused ≡ (findings.old.any_refused || is_some refusal)) }
+    ensures bytes { findings.new.bytes ≡ findings.old.bytes }
+{
+    if let Some(refused) = refusal {
+        put_refusal(&mut findings.text, path, &refused)?;
+        findings.any_refused = true;
+    }
+    Ok(())
+}
+
+// Reads the file at a path, where it is one that is read, and notes whether it is refused.
+#[tactic(auto, using(crate::proofs::FoundInFile::found_there))]
+fn check_file<S: Store, L: Ledger>(
+    alloc: Global,
+    store: &mut S,
+    readers: &Readers,
+    findings: &mut Findings,
+    path: &str,
+    steps: &mut Steps<L>,
+) -> Result<(), Stop>
+    requires { findings.old.bytes ≤ MOST_IN_ALL }
+    ensures text { IsTrue S.tells_files → (read : Reads) → AreReadings read → OnOk result (
+        let refusal = refusal_at read (S.files store.old) path.now in
+        findings.new.text.items ≡ findings.old.text.items ++ line_of path.now refusal) }
+    ensures refused { IsTrue S.tells_files → (read : Reads) → AreReadings read → OnOk result (
+        let refusal = refusal_at read (S.files store.old) path.now in
+        findings.new.any_refused ≡ (findings.old.any_refused || is_some refusal)) }
+    ensures bytes { IsTrue S.tells_files → OnOk result (
+        findings.new.bytes ≡ findings.old.bytes + bytes_at (S.files store.old) path.now) }
+    ensures in_limit { OnOk result (findings.new.bytes ≤ MOST_IN_ALL) }
+    ensures past_limit { IsTrue S.tells_files → (limit : Limit) → result ≡ Err (Stop.Limit limit) →
+        (limit ≡ Limit.Bytes) × (MOST_IN_ALL < findings.old.bytes + bytes_at (S.files store.old) path.now) }
+    ensures files { S.files store.new ≡ S.files store.old }
+    ensures cause { result ≡ Err Stop.ReadFault → Rose (S.read_faults store.old) (S.read_faults store.new) }
+    ensures never_writes { result ≢ Err Stop.WriteFault }
+    ensures count { S.read_faults store.old ≤ S.read_faults store.new }
+{
+    if !is_read(path) {
+        return Ok(());
+    }
+    let Some(bytes) = store.read(alloc, path, MOST_READ)? else {
+        return Ok(());
+    };
+    let all = findings.bytes + bytes.len() as u64;
+    if all > MOST_IN_ALL {
+        return Err(Stop::Limit(Limit::Bytes));
+    }
+    let refusal = refusal_of(alloc, readers, path, &bytes, steps)?;
+    note_refusal(findings, path, refusal)?;
+    findings.bytes = all;
+    Ok(())
+}
+
+// Reads the files at these paths and notes which are refused.
+fn check_files<S: Store, L: Ledger>(
+    alloc: Global,
+    store: &mut S,
+    findings: &mut Findings,
+    paths: Vec<PathText>,
+    blank: Blank,
+) -> Result<(), Stop>
+    requires none_yet { findings.old.bytes ≡ 0 }
+    requires name { blank.name ≡ L.name }
+    requires parts { blank.parts ≡ L.parts }
+    requires some_part { 0 < L.parts }
+    ensures text { IsTrue S.tells_files → (read : Reads) → AreReadings read → OnOk result (
+        findings.new.text.items ≡ findings.old.text.items ++ lines read (S.files store.old) paths.items) }
+    ensures refused { IsTrue S.tells_files → (read : Reads) → AreReadings read → OnOk result (
+        findings.new.any_refused ≡ (findings.old.any_refused || any_refused read (S.files store.old) paths.items)) }
+    ensures in_limit { IsTrue S.tells_files → OnOk result (bytes_read (S.files store.old) paths.items ≤ MOST_IN_ALL) }
+    ensures past_limit { IsTrue S.tells_files → (limit : Limit) → result ≡ Err (Stop.Limit limit) →
+        (limit ≡ Limit.Bytes) × (MOST_IN_ALL < bytes_read (S.files store.old) paths.items) }
+    ensures files { S.files store.new ≡ S.files store.old }
+    ensures cause { result ≡ Err Stop.ReadFault → Rose (S.read_faults store.old) (S.read_faults store.new) }
+    ensures never_writes { result ≢ Err Stop.WriteFault }
+    ensures count { S.read_faults store.old ≤ S.read_faults store.new }
+{
+    let readers = Readers::new(alloc)?;
+    let mut steps = Steps::<L>::new(blank);
+    for path in paths {
+        check_file(alloc, store, &readers, findings, path.as_str(), &mut steps)?;
+    }
+    Ok(())
+}
+
+/// Reads each file that has a reader, and tells how many there are and which of them are refused.
+#[tactic(auto, using(crate::proofs::Answering::answered))]
+pub fn check_repository<S: Store>(alloc: Global, store: &mut S) -> Result<Done, Stop>
+    ensures answer { IsTrue S.tells_files → (read : Reads) → AreReadings read →
+        IsAnswered (answer read (S.files store.old) check) result (S.files store.new) }
+    ensures files { S.files store.new ≡ S.files store.old }
+    ensures cause { result ≡ Err Stop.ReadFault → Rose (S.read_faults store.old) (S.read_faults store.new) }
+    ensures never_writes { result ≢ Err Stop.WriteFault }
+{
+    let paths = store.list(alloc, MOST_PATHS)?;
+    let count = count_read(&paths);
+    if count > MOST_FILES {
+        return Err(Stop::Limit(Limit::Files));
+    }
+    let mut findings = Findings {
+        text: count_line(alloc, count)?,
+        any_refused: false,
+        bytes: 0,
+    };
+    check_files::<S, Brand>(alloc, store, &mut findings, paths, Blank::new(1))?;
+    Ok(Done {
+        text: findings.text,
+        any_refused: findings.any_refused,
+    })
+}

@@ -1,0 +1,34 @@
+// The limits of a repository.
+ghost use Rattle.std.specs.Prelude.{◌≡◌};
+ghost use Rattle.rewrite_cli.specs.Limits.{limit_line};
+
+/// How many paths a store may have.
+pub const MOST_PATHS: u32 = 100_000;
+
+/// How many files are read.
+pub const MOST_FILES: usize = 10_000;
+
+/// How many bytes all files that are read may have.
+pub const MOST_IN_ALL: u64 = 67_108_864;
+
+/// A quantity with a limit.
+#[derive(Clone, Copy, Debug, PartialEq, Eq)]
+pub enum Limit {
+    Paths,
+    Files,
+    Bytes,
+}
+
+impl Limit {
+    /// What is told where the limit is passed.
+    #[tactic(auto, unfolding(crate::specs::Limits::limit_line))]
+    pub fn line(self) -> &'static [u8]
+        ensures { result.now ≡ limit_line self }
+    {
+        match self {
+            Limit::Paths => b"limit: paths more than 100000\n",
+            Limit::Files => b"limit: files more than 10000\n",
+            Limit::Bytes => b"limit: bytes more than 67108864\n",
+        }
+    }
+}
