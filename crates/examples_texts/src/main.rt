@@ -1,4 +1,4 @@
-//! Worked examples of texts and trees: Java files cut into leaves, places, tables of rules and what they
+//! Worked examples of texts and trees: Java and YAML files cut into leaves, places, tables of rules and what they
 //! derive, and the new texts of trees with edits. The program reads cases and writes each with its answer, and the file
 //! `stdout` holds what it must write (see `examples_base`).
 //!
@@ -15,6 +15,7 @@ mod places;
 mod rules;
 mod tables;
 mod trees;
+mod yaml;
 
 use examples_base::{Answer, Lines, Stop, text_of};
 use std::alloc::Global;
@@ -46,6 +47,7 @@ fn put_text_answer(alloc: Global, lines: &Lines, text: &[u8], out: &mut Answer) 
     match lines.heading() {
         "places" => places::put_places(text, out),
         "places from others" => places::put_places_behind(text, out),
+        "yaml leaves" => yaml::put_leaves(alloc, text, out),
         "texts" => places::put_text(alloc, text, out),
         "derivations" => trees::put_derived(alloc, lines.givens(), text, out),
         "readings" => trees::put_read(alloc, lines.givens(), text, out),
