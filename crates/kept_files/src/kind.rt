@@ -28,11 +28,13 @@ fn is_hidden(path: &[u8]) -> bool
     path.split(|b| *b == b'/').any(|part| begins_with_dot(part))
 }
 
+/// Whether a path is that of a source file: no part of it begins with a dot, and it isn't `rewrite.yml`.
 #[tactic(auto, unfolding(crate::specs::Kinds::is_source))]
-fn is_source(path: &[u8]) -> bool
+pub fn is_source(path: &str) -> bool
     ensures { result ≡ is_source path.now }
 {
-    !(is_hidden(path) || path == b"rewrite.yml".as_slice())
+    let bytes = path.as_bytes();
+    !(is_hidden(bytes) || bytes == b"rewrite.yml".as_slice())
 }
 
 #[tactic(auto, unfolding(crate::specs::Kinds::ends_with))]
@@ -63,9 +65,8 @@ fn kind_by_ending(path: &[u8]) -> FileKind
 pub fn kind_of(path: &str) -> FileKind
     ensures { result ≡ kind_of path.now }
 {
-    let bytes = path.as_bytes();
-    if is_source(bytes) {
-        kind_by_ending(bytes)
+    if is_source(path) {
+        kind_by_ending(path.as_bytes())
     } else {
         FileKind::Other
     }

@@ -15,10 +15,18 @@
 //! The definitions in specs/: `Kinds` (kinds by paths), `Readings` (what a file reads as).
 #![tactic(auto)]
 
+mod file;
 mod kind;
 mod laws;
+mod option;
 mod readers;
+mod scan_value;
+mod state;
 
-pub use kind::{FileKind, kind_of};
+pub use file::KeptFile;
+pub use kind::{FileKind, is_source, kind_of};
 pub use laws::a_file_reads_as_one_thing;
+pub use option::{CreateTextFile, DeleteSourceFiles, FindSourceFiles};
 pub use readers::Readers;
+pub use scan_value::ScanValue;
+pub use state::{KeptFiles, has_path, held_bytes, properties_in, put_file, yaml_in};

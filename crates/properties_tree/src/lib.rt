@@ -44,7 +44,7 @@ pub use laws::{
     values_read_back,
 };
 pub use layout::{END, ENDING, ENTRY, FILE, KEY, SEPARATOR, VALUE};
-pub use option::PropertiesChangePropertyKey;
+pub use option::{AddProperty, ChangePropertyValue, DeleteProperty, PropertiesChangePropertyKey};
 pub use reader::read_properties;
 pub use spelling::{spell_key, spell_value};
 pub use tree::{entry_count, has_key, key_leaf, key_of, prefix_of_entry, value_of};

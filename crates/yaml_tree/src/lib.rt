@@ -44,10 +44,7 @@ pub use entry::{EntryView, entries};
 pub use key_path::{KeyPath, PathFault, PathStep};
 pub use kind::Kind;
 pub use laws::{key_paths_are_one, key_paths_compare_scalars, readings_are_one};
-pub use option::{
-    ChangeKey, ChangeValue, CreateTextFile, DeleteKey, DeleteSourceFiles, DeleteUnusedProperties,
-    FindSourceFiles, ListTypes, YamlChangePropertyKey,
-};
+pub use option::{ChangeKey, ChangeValue, DeleteKey, YamlChangePropertyKey};
 pub use reader::{STREAM, YamlReader};
 pub use scalars::scalar;
 pub use table::YAML;
