@@ -1,5 +1,5 @@
 -- What a recipe does to a file.
-use Rattle.std.specs.Prelude.{ℕ, List, [], ◌∷◌, Option, Some, None}
+use Rattle.std.specs.Prelude.{List, [], ◌∷◌, Option, Some, None}
 use Rattle.rw_base.specs.Arena.{Arena}
 use Rattle.rw_base.specs.NewText.{AreEdits}
 use Rattle.rw_base.specs.declared.edit.Edit.{Edit}
