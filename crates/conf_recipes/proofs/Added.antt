@@ -1,9 +1,9 @@
 -- The entry that is added at the end of a file.
-use Rattle.std.proofs.Common.{◌≡◌, ℕ, zero, suc, ◌+◌, ◌*◌, ◌-◌, ◌<◌, ◌≤◌, ◌==◌, Bool, true, false, ◌||◌, List, [], ◌∷◌, ◌++◌, length, take, drop, get_or, refl, sym, ap, subst, ◌∙◌, append_assoc, append-nil, add-one, drop-cons, arith}
-use Rattle.std.specs.Prelude.{All, if◌then◌else◌}
+use Rattle.std.proofs.Common.{◌≡◌, ℕ, ◌+◌, ◌*◌, ◌-◌, ◌<◌, ◌≤◌, ◌==◌, Bool, true, false, ◌||◌, List, [], ◌∷◌, ◌++◌, length, take, drop, get_or, refl, sym, ap, ◌∙◌, append_assoc, append-nil, add-one, drop-cons, arith}
+use Rattle.std.specs.Prelude.{if◌then◌else◌}
 use Rattle.std.specs.List.{list_any}
 use Rattle.std.specs.Str.{bytes_eq}
-use Rattle.std.proofs.lemmas.List.{drop_all, take_all, get_or_default}
+use Rattle.std.proofs.lemmas.List.{drop_all, take_all}
 use Rattle.std.proofs.lemmas.List.Elements.{All-nil, All-cons}
 use Rattle.std.proofs.lemmas.List.Folds.{list_any_more, list_any_at}
 use Rattle.rw_base.specs.Arena.{Arena}
@@ -16,8 +16,6 @@ use Rattle.properties_tree.specs.Characters.{is_line_end, backslash}
 use Rattle.properties_tree.specs.Decoding.{key_text}
 use Rattle.properties_tree.specs.Entries.{Entry, properties_of, no_entry}
 use Rattle.properties_tree.specs.Lines.{backslashes_behind, is_continued, is_odd}
-use Rattle.properties_tree.specs.Spelling.{spelled_key, spelled_value}
-use Rattle.conf_recipes.specs.PathPatterns.{is_empty}
 use Rattle.conf_recipes.specs.PropertiesRecipes.{text_edit, ending_at, first_line_end, ends_in_line_end, line_end_before, added_text, is_unfinished, has_entry, adds_of}
 
 cut : {A : Type 0} (xs : List A) (i : ℕ) (d : A) → i < length xs → drop i xs ≡ get_or xs i d ∷ drop (i + 1) xs

@@ -1,6 +1,6 @@
 -- The edits of one entry after another, and that they are edits of the tree.
 use Rattle.std.proofs.Common.{◌≡◌, ℕ, suc, ◌+◌, ◌<◌, ◌≤◌, Bool, true, false, List, [], ◌∷◌, ◌++◌, length, take, drop, get_or, refl, sym, ap, subst, ◌∙◌, inl, inr, append_assoc, append-nil, length-append, add-one, drop-cons, arith}
-use Rattle.std.specs.Prelude.{All, IsTrue, ◌↔◌, if◌then◌else◌}
+use Rattle.std.specs.Prelude.{IsTrue, ◌↔◌, if◌then◌else◌}
 use Rattle.std.specs.Str.{bytes_eq}
 use Rattle.std.proofs.lemmas.Bool.{cases_Bool, false≢true}
 use Rattle.std.proofs.lemmas.Slice.Eq.{bytes_eq-Decides}
@@ -12,7 +12,7 @@ use Rattle.rw_base.specs.declared.edit.Edit.{Edit}
 use Rattle.rw_base.specs.declared.edit.Item.TheVariants as item
 use Rattle.rw_base.specs.declared.edit.Spot.{Spot}
 use Rattle.rw_base.specs.declared.edit.Spot.TheVariants as spot
-use Rattle.properties_tree.specs.Decoding.{key_text, entry_at}
+use Rattle.properties_tree.specs.Decoding.{key_text}
 use Rattle.properties_tree.specs.Entries.{Entry, properties_of, no_entry}
 use Rattle.properties_tree.specs.Layout.{tree_of, entry_rows, file_row}
 use Rattle.conf_recipes.specs.PropertiesRecipes.{through_last_end, delete_edit, deletes}

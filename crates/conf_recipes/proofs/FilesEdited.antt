@@ -1,9 +1,8 @@
 -- What the recipes do to a file, by cases of what it reads as.
-use Rattle.std.proofs.Common.{◌≡◌, ℕ, List, [], ◌∷◌, length, Option, Some, None, refl, sym, ap, subst, ◌∙◌, arith}
+use Rattle.std.proofs.Common.{◌≡◌, ℕ, List, [], ◌∷◌, length, Option, Some, None, refl, sym, ap, subst, ◌∙◌}
 use Rattle.rw_base.specs.Arena.{Arena}
 use Rattle.rw_base.specs.NewText.{AreEdits}
 use Rattle.rw_base.specs.declared.edit.Edit.{Edit}
-use Rattle.rw_host.specs.declared.file.FileEdit.{FileEdit}
 use Rattle.rw_host.specs.declared.file.FileEdit.TheVariants as edit
 use Rattle.properties_tree.specs.declared.option.PropertiesChangePropertyKey.{PropertiesChangePropertyKey}
 use Rattle.properties_tree.specs.declared.option.DeleteProperty.{DeleteProperty}

@@ -1,5 +1,5 @@
 -- Sizes of leaves of a file's tree.
-use Rattle.std.proofs.Common.{◌≡◌, ℕ, zero, suc, ◌+◌, ◌*◌, ◌<◌, ◌==◌, Bool, List, [], ◌∷◌, length, get_or, refl, sym, ap, ◌∙◌, arith, eqb-true, eq-eqb, ne_eqb}
+use Rattle.std.proofs.Common.{◌≡◌, ℕ, zero, suc, ◌+◌, ◌*◌, ◌<◌, ◌==◌, List, [], ◌∷◌, length, get_or, refl, sym, ap, ◌∙◌, arith, eq-eqb, ne_eqb}
 use Rattle.rw_base.specs.Arena.{Arena, leaf_at}
 use Rattle.rw_base.specs.declared.tree.Leaf.{Leaf}
 use Rattle.properties_tree.specs.Decoding.{entry_at}

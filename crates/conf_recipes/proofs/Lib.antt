@@ -10,3 +10,5 @@ pub mod Bits
 pub mod Marks
 pub mod FileCases
 pub mod Added
+pub mod AtTheEnd
+pub mod Without

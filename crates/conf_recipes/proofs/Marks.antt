@@ -1,10 +1,10 @@
 -- Places marked one after another, and what is left at a marked place.
-use Rattle.std.proofs.Common.{◌≡◌, ℕ, suc, ◌+◌, ◌<◌, ◌≤◌, ◌==◌, Bool, true, false, not, ◌&&◌, ◌||◌, List, [], ◌∷◌, ◌++◌, length, take, drop, get_or, set, drop-set-lt, map, zero, inl, inr, refl, sym, ap, subst, ◌∙◌, append_assoc, append-nil, add-one, drop-cons, arith}
+use Rattle.std.proofs.Common.{◌≡◌, ℕ, suc, ◌+◌, ◌<◌, ◌≤◌, ◌==◌, Bool, true, false, ◌&&◌, ◌||◌, List, [], ◌∷◌, ◌++◌, length, take, drop, get_or, set, drop-set-lt, zero, inl, inr, refl, sym, ap, ◌∙◌, append_assoc, add-one, drop-cons, arith}
 use Rattle.std.specs.Prelude.{replicate, if◌then◌else◌}
 use Rattle.std.proofs.lemmas.Bool.{cases_Bool}
 use Rattle.std.proofs.lemmas.List.{drop_all, take_more_set, set_split}
 use Rattle.conf_recipes.specs.PathMarks.{some_marked, byte_here, byte_carries, byte_last, part_here, part_carries}
-use Rattle.conf_recipes.specs.PathPatterns.{some_end, is_continuation, behind_character, begins_and, part_matches, is_empty, parts_of, stands_for_parts, first_and, parts_match, path_matches}
+use Rattle.conf_recipes.specs.PathPatterns.{some_end, is_continuation, behind_character, part_matches, parts_of, stands_for_parts, parts_match, path_matches}
 use Rattle.conf_recipes.proofs.Bits.{last_second, two_turned, or_false, any_ends, any_steps, one_ends, character_steps, byte_steps, part_steps}
 
 -- ---- marks from a place on

@@ -1,5 +1,5 @@
 -- The edits in which entries get a value, one entry after another.
-use Rattle.std.proofs.Common.{◌≡◌, ℕ, suc, ◌+◌, ◌*◌, ◌<◌, ◌≤◌, Bool, true, false, ◌&&◌, List, [], ◌∷◌, ◌++◌, length, drop, get_or, Option, Some, None, refl, sym, ap, subst, ◌∙◌, append_assoc, append-nil, add-one, drop-cons, arith}
+use Rattle.std.proofs.Common.{◌≡◌, ℕ, ◌+◌, ◌*◌, ◌<◌, ◌≤◌, Bool, true, false, List, [], ◌∷◌, ◌++◌, length, drop, get_or, Option, Some, None, refl, sym, ap, subst, ◌∙◌, append_assoc, append-nil, add-one, drop-cons, arith}
 use Rattle.std.specs.Prelude.{All, if◌then◌else◌}
 use Rattle.std.specs.Str.{bytes_eq}
 use Rattle.std.proofs.lemmas.List.{drop_all}
@@ -9,7 +9,6 @@ use Rattle.rw_base.specs.NewText.{IsItemOf, AreEdits, AreRanked}
 use Rattle.rw_base.specs.RankedEdits.{ranked_are_edits}
 use Rattle.rw_base.specs.declared.edit.Edit.{Edit}
 use Rattle.rw_base.specs.declared.edit.Item.TheVariants as item
-use Rattle.rw_base.specs.declared.edit.Spot.{Spot}
 use Rattle.rw_base.specs.declared.edit.Spot.TheVariants as spot
 use Rattle.properties_tree.specs.declared.option.ChangePropertyValue.{ChangePropertyValue}
 use Rattle.properties_tree.specs.Decoding.{key_text, value_text}

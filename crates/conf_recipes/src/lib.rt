@@ -25,6 +25,7 @@ mod file_recipes;
 mod path_patterns;
 mod properties;
 mod properties_recipes;
+mod recipe_laws;
 mod renaming;
 mod values;
 
@@ -34,4 +35,5 @@ pub use properties_recipes::{
     edits_of_add_property, edits_of_change_property_value, edits_of_delete_property,
     edits_of_properties_change_property_key,
 };
+pub use recipe_laws::{added_entries_stand_at_the_end, deletes_leave_the_rest};
 pub use renaming::{edits_write_keys, renamed_in_properties};

@@ -1,4 +1,4 @@
-use Rattle.std.proofs.Common.{◌≡◌, ◌-◌, length, drop, take_all, length-drop, sym, ap, ◌∙◌, arith}
+use Rattle.std.proofs.Common.{◌-◌, length, drop, take_all, length-drop, sym, ap, ◌∙◌, arith}
 use Rattle.conf_recipes.specs.PropertiesRecipes.{ending_at, first_line_end}
 use Rattle.conf_recipes.proofs.Added.{line_here, line_none}
 use Rattle.conf_recipes.proofs.adding.first_line_end.Goals as goal

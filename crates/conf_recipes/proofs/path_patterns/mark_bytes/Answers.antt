@@ -1,4 +1,4 @@
-use Rattle.std.proofs.Common.{◌≡◌, ℕ, ◌+◌, List, [], ◌∷◌, false, length, take, drop, refl, ap, ◌∙◌, arith}
+use Rattle.std.proofs.Common.{false, length, refl, ap, ◌∙◌, arith}
 use Rattle.std.proofs.lemmas.List.{length-set}
 use Rattle.conf_recipes.specs.PathMarks.{some_marked, byte_here, byte_carries, byte_last}
 use Rattle.conf_recipes.specs.PathPatterns.{part_matches}

@@ -1,4 +1,4 @@
-use Rattle.std.proofs.Common.{ℕ, ◌+◌, List, Bool, length, suc, false, replicate, ap, ◌∙◌, arith}
+use Rattle.std.proofs.Common.{length, false, ap, ◌∙◌, arith}
 use Rattle.std.proofs.lemmas.List.{length-replicate}
 use Rattle.conf_recipes.specs.PathPatterns.{part_matches}
 use Rattle.conf_recipes.proofs.Marks.{part_start, part_end}

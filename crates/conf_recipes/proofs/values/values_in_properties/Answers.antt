@@ -1,7 +1,6 @@
 use Rattle.std.proofs.Common.{ℕ, ◌++◌, List, get_or, sym, ap, ◌∙◌, arith}
 use Rattle.properties_tree.specs.Entries.{properties_of, no_entry}
-use Rattle.rw_base.specs.declared.edit.Edit.{Edit}
-use Rattle.conf_recipes.specs.PropertiesRecipes.{value_edits, all_value_edits, values_of}
+use Rattle.conf_recipes.specs.PropertiesRecipes.{value_edits, values_of}
 use Rattle.conf_recipes.proofs.ValueEdits.{got, kept, ended, values_fit}
 use Rattle.conf_recipes.proofs.values.values_in_properties.Goals as goal
 use Rattle.conf_recipes.proofs.values.values_in_properties.Goals.{then-branch+in_ok-push_value, else-branch}
