@@ -1,3 +1,14 @@
 pub mod KeyEdits
 pub mod Written
 pub mod Copied
+pub mod FilesEdited
+pub mod LastEnd
+pub mod Deleted
+pub mod LeafSizes
+pub mod ValueEdits
+pub mod Bits
+pub mod Marks
+pub mod FileCases
+pub mod Added
+pub mod AtTheEnd
+pub mod Without

@@ -18,8 +18,22 @@
 //! What must be believed is `PropertiesEdits` in specs/, behind properties_tree's `Keys` and rw_base's `NewText`.
 #![tactic(auto)]
 
+mod adding;
+mod deleting;
+mod file_edits;
+mod file_recipes;
+mod path_patterns;
 mod properties;
+mod properties_recipes;
+mod recipe_laws;
 mod renaming;
+mod values;
 
+pub use file_recipes::{edits_of_delete_source_files, edits_of_find_source_files, text_files};
 pub use properties::edits_in_properties;
+pub use properties_recipes::{
+    edits_of_add_property, edits_of_change_property_value, edits_of_delete_property,
+    edits_of_properties_change_property_key,
+};
+pub use recipe_laws::{added_entries_stand_at_the_end, deletes_leave_the_rest};
 pub use renaming::{edits_write_keys, renamed_in_properties};
