@@ -1,3 +1,10 @@
 pub mod KeyEdits
 pub mod Written
 pub mod Copied
+pub mod YamlSpans
+pub mod YamlEdits
+pub mod YamlKeys
+pub mod YamlQuotes
+pub mod Loops
+pub mod YamlValues
+pub mod YamlJoinedKeys
