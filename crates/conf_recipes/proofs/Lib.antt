@@ -12,3 +12,10 @@ pub mod FileCases
 pub mod Added
 pub mod AtTheEnd
 pub mod Without
+pub mod YamlSpans
+pub mod YamlEdits
+pub mod YamlKeys
+pub mod YamlQuotes
+pub mod Loops
+pub mod YamlValues
+pub mod YamlJoinedKeys

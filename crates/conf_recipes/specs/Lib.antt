@@ -4,6 +4,9 @@ pub mod PathMarks
 pub mod PropertiesRecipes
 pub mod FileRecipes
 pub mod RecipeLaws
+pub mod YamlLeaves
+pub mod YamlJoinedKeys
+pub mod YamlRecipes
 pub use Rattle.rw_base.specs.Arena
 pub use Rattle.rw_base.specs.NewText
 pub use Rattle.properties_tree.specs.Layout

@@ -15,6 +15,16 @@
 //! (`leaves`, `fit`). Both ways give one text (`renamed_in_properties`), and that text is the file with the keys that
 //! say the old key written as the new one is spelled, and every other byte as it was (the law `edits_write_keys`).
 //!
+//! The recipes on YAML files look at one file of a repository and say what becomes of it, each with two clauses: the
+//! edits are those of the definition (`edits`), and they are edits of the file's tree (`fit`):
+//!
+//! ```text
+//! let edit = edits_of_change_key(alloc, &kept, file, &options)?;      // `key_changed`; also `value_changed`,
+//! ```                                                                 // `yaml_property_key_changed`, `key_deleted`
+//!
+//! Their definitions are in `YamlRecipes`, over those of `YamlLeaves` (keys and values), `YamlJoinedKeys` (keys joined by
+//! dots) and `YamlDeletions` (what stays of a mapping).
+//!
 //! What must be believed is `PropertiesEdits` in specs/, behind properties_tree's `Keys` and rw_base's `NewText`.
 #![tactic(auto)]
 
@@ -28,6 +38,10 @@ mod properties_recipes;
 mod recipe_laws;
 mod renaming;
 mod values;
+mod yaml_joined_keys;
+mod yaml_keys;
+mod yaml_text;
+mod yaml_values;
 
 pub use file_recipes::{edits_of_delete_source_files, edits_of_find_source_files, text_files};
 pub use properties::edits_in_properties;
@@ -37,3 +51,6 @@ pub use properties_recipes::{
 };
 pub use recipe_laws::{added_entries_stand_at_the_end, deletes_leave_the_rest};
 pub use renaming::{edits_write_keys, renamed_in_properties};
+pub use yaml_joined_keys::edits_of_yaml_change_property_key;
+pub use yaml_keys::edits_of_change_key;
+pub use yaml_values::edits_of_change_value;

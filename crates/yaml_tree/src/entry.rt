@@ -65,8 +65,8 @@ pub(crate) fn node_part(tree: &Tree, n: NodeId, k: usize) -> Option<NodeId>
     }
 }
 
-// Whether a node is a flow mapping.
-pub(crate) fn is_flow_mapping(tree: &Tree, n: NodeId) -> bool
+/// Whether a node is a flow mapping.
+pub fn is_flow_mapping(tree: &Tree, n: NodeId) -> bool
     requires { n.0 < length tree.now.nodes }
     ensures { let nodes = tree.now.nodes in
         result ≡ is_flow_mapping (class_in tree.now.leaves) (kind_of nodes n.0) (kids_of nodes n.0) }
@@ -133,11 +133,15 @@ pub(crate) fn key_in(tree: &Tree, n: NodeId, in_mapping: bool) -> Option<u32>
     None
 }
 
-// A node as an entry.
-fn own_entry(tree: &Tree, n: NodeId, in_mapping: bool) -> Option<EntryView>
+/// A node as an entry, if it is one. A node that stands directly in a flow mapping may be an entry of it, and so may a
+/// node that a key path has found.
+pub fn own_entry(tree: &Tree, n: NodeId, in_mapping: bool) -> Option<EntryView>
     requires { n.0 < length tree.now.nodes }
-    ensures { let nodes = tree.now.nodes in option_to_list result
+    ensures entry { let nodes = tree.now.nodes in option_to_list result
         ≡ own_entry (class_in tree.now.leaves) in_mapping n.0 (kind_of nodes n.0) (kids_of nodes n.0) }
+    ensures key { IfSome result (λ e. e.key_leaf < length tree.now.leaves) }
+    ensures value { IfSome result (λ e. e.value ≡ node_first (behind 2 (kids_of tree.now.nodes n.0))) }
+    ensures below { IfSome result (λ e. IfSome e.value (λ m. m.0 < n.0)) }
 {
     match key_in(tree, n, in_mapping) {
         None => None,

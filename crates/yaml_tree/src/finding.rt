@@ -1,6 +1,6 @@
 // What key paths find.
 ghost use Rattle.std.specs.Prelude.{◌≡◌, ◌<◌, ◌≤◌, ◌++◌, [], length, OnOk, IfOk, IfSome, if◌then◌else◌};
-ghost use Rattle.rw_base.specs.Arena.{kind_of, end_of};
+ghost use Rattle.rw_base.specs.Arena.{IsTree, kind_of, end_of};
 ghost use Rattle.rw_base.specs.Laid.{kids_of};
 ghost use Rattle.rw_grammar.specs.Results.{class_in};
 ghost use Rattle.yaml_tree.specs.Entries.{is_flow_mapping, key_in};
@@ -283,7 +283,8 @@ impl KeyPath {
     /// The entries that it finds in a file's tree, from the root of each document down, in order.
     pub fn finds(&self, alloc: Global, tree: &Tree, bytes: &[u8]) -> Mem<Vec<NodeId>>
         requires { length bytes.now ≡ end_of tree.now }
-        ensures { IfOk result (λ entries. entries.items ≡ found_in bytes.now self.now tree.now) }
+        ensures entries { IfOk result (λ entries. entries.items ≡ found_in bytes.now self.now tree.now) }
+        ensures tree { IsTree tree.now }
     {
         let mut out = Vec::new(alloc);
         find_in_each(alloc, tree, bytes, self.steps(), tree.root(), &mut out)?;

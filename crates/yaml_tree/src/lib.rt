@@ -15,7 +15,8 @@
 //! over the whole file (`whole`), or the place and the cause of a refusal (`refused`). One thing alone comes of a file
 //! (the law `readings_are_one`). The nodes of a tree are of the kinds `Kind`, one for each rule of the table in
 //! src/table.rt, which reads like a grammar. `entries` gives the entries of all mappings, of block and of flow style,
-//! each once and in the order of their keys (`entries_of`). `scalar` gives what a leaf of class KEY, SCALAR, FSCALAR or
+//! each once and in the order of their keys (`entries_of`); `own_entry` says whether one node is an entry, and
+//! `is_flow_mapping` whether it is a mapping in braces. `scalar` gives what a leaf of class KEY, SCALAR, FSCALAR or
 //! BLOCK says (`scalar_of`), by `yaml_texts`, which also spells texts.
 //!
 //! `KeyPath::read` gives the steps that a text spells (clause `path`), or the byte behind the longest front of the text
@@ -40,7 +41,7 @@ mod reader;
 mod scalars;
 mod table;
 
-pub use entry::{EntryView, entries};
+pub use entry::{EntryView, entries, is_flow_mapping, own_entry};
 pub use key_path::{KeyPath, PathFault, PathStep};
 pub use kind::Kind;
 pub use laws::{key_paths_are_one, key_paths_compare_scalars, readings_are_one};

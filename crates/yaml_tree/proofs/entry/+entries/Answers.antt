@@ -49,5 +49,5 @@ push_node-returns t c =
     entries_both c.args.out.now.items c.push_entry.new.out.items c.push_below.new.out.items
     (own_entry cl c.args.in_mapping m (kind_of rows m) (kids_of rows m))
     (entries_in cl (is_flow_mapping cl (kind_of rows m) (kids_of rows m)) (kids_of rows m))
-    (c.in_ok-push_entry.ensures ∙ ap (λ x. c.args.out.now.items ++ x) c.own_entry.ensures)
+    (c.in_ok-push_entry.ensures ∙ ap (λ x. c.args.out.now.items ++ x) c.own_entry.ensures.entry)
     c.in_ok-push_below.ensures
