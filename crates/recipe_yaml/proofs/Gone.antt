@@ -68,15 +68,18 @@ module _ (paths : KeyPathsOf) (is_condition : Bool) (above : List ℕ) (e : Writ
       ap (λ x. and_then x (λ leaf. without (leaf_fault is_condition e w.met) (Ok (with_leaf (record { recipe = leaf; name = e.name; conditions = above }) (counted w))))) is
       ∙ ap (λ x. without x (Ok (with_leaf (record { recipe = leaf; name = e.name; conditions = above }) (counted w)))) (sym there)
 
-  pub leaf_pushed : (leaf : LeafRecipe) (u : Unit {0}) (planned : PlannedLeaf) (v : Walked) → IsOutcome (leaf_recipe paths e) (Ok leaf) → None ≡ leaf_fault is_condition e w.met
-      → planned ≡ record { recipe = leaf; name = e.name; conditions = above } → v ≡ with_leaf planned (counted w) → IsGone (leaf_entry paths is_condition above e w) (Ok u) v
+  pub leaf_pushed : (leaf : LeafRecipe) (name conds : List ℕ) (pushed : List PlannedLeaf) → IsOutcome (leaf_recipe paths e) (Ok leaf) → None ≡ leaf_fault is_condition e w.met
+      → pushed ≡ w.leaves ++ record { recipe = leaf; name = name; conditions = conds } ∷ [] → name ≡ e.name → conds ≡ above
+      → leaf_entry paths is_condition above e w ≡ Ok (record { met = w.met + 1; conditions = w.conditions; again = w.again; leaves = pushed })
   unfolding leaf_entry
-  leaf_pushed leaf u planned v is none same ends =
+  leaf_pushed leaf name conds pushed is none there named conditional =
       ap (λ x. and_then x (λ leaf. without (leaf_fault is_condition e w.met) (Ok (with_leaf (record { recipe = leaf; name = e.name; conditions = above }) (counted w))))) is
       ∙ (ap (λ x. without x (Ok (with_leaf (record { recipe = leaf; name = e.name; conditions = above }) (counted w)))) (sym none)
-      ∙ (ap (λ x. Ok (with_leaf x (counted w))) (sym same) ∙ ap Ok (sym ends)))
+      ∙ (ap (λ x. Ok (with_leaf (record { recipe = leaf; name = x; conditions = above }) (counted w))) (sym named)
+      ∙ (ap (λ x. Ok (with_leaf (record { recipe = leaf; name = name; conditions = x }) (counted w))) (sym conditional)
+      ∙ ap (λ x. Ok (record { met = w.met + 1; conditions = w.conditions; again = w.again; leaves = x })) (sym there))))
 
-pub ruleset leaf_entries = (no_memory, leaf_wrong, leaf_faulty, leaf_pushed)
+pub ruleset leaf_entries = (no_memory, leaf_faulty)
 
 module _ (book : List Written) (paths : KeyPathsOf) (levels : ℕ) (around : List ℕ) (is_condition : Bool) (above : List ℕ) (e : WrittenEntry) (w : Walked) where
   pub no_level : (v : Walked) (fault : RecipeFault) → levels ≡ 0 → fault ≡ Wrong 10 (Some e.place) → IsGone (entry book paths levels around is_condition above e w) (Err fault) v

@@ -1,10 +1,15 @@
 -- Options, one after another.
-use Rattle.std.proofs.Common.{◌≡◌, ◌≢◌, ℕ, ◌+◌, ◌<◌, ◌≤◌, Bool, true, false, not, List, [], ◌∷◌, length, take, drop, get_or, Option, Some, None, refl, sym, ap, subst, ◌∙◌}
-use Rattle.std.specs.Prelude.{Result, Ok, Err, IfOk}
+use Rattle.std.proofs.Common.{◌≡◌, ◌≢◌, ℕ, ◌+◌, ◌<◌, ◌≤◌, Bool, true, false, not, ◌&&◌, List, [], ◌∷◌, length, take, drop, get_or, Option, Some, None, refl, sym, ap, subst, ◌∙◌}
+use Rattle.std.specs.Prelude.{◌↔◌, ¬◌, IsTrue, IsSome}
 use Rattle.std.specs.List.{find}
-use Rattle.std.specs.Option.{option_map}
+use Rattle.std.specs.Option.{is_some, option_map}
+use Rattle.std.specs.Str.{IsUtf8, is_utf8}
+use Rattle.std.proofs.lemmas.Bool.{false≢true}
+use Rattle.std.proofs.lemmas.Str.{IsUtf8-from_is_utf8, is_utf8-from_IsUtf8}
 use Rattle.std.proofs.lemmas.List.{drop_all}
 use Rattle.rw_base.specs.declared.place.Place.{Place}
+use Rattle.rw_host.specs.Path.{is_path}
+use Rattle.kept_files.specs.Kinds.{is_source}
 use Rattle.yaml_tree.specs.declared.key_path.PathStep.{PathStep}
 use Rattle.yaml_tree.specs.KeyPaths.{IsKeyPath, IsWrongAt}
 use Rattle.recipe_yaml.specs.KeyPathTexts.{KeyPathsOf, AreKeyPaths}
@@ -25,6 +30,33 @@ module _ (paths : KeyPathsOf) (are : AreKeyPaths paths) (text : List ℕ) where
   spells_none n is = sym (are.1 text is.wrong)
 
 pub ruleset key_paths_by = (spells, spells_none)
+
+-- ---- paths of source files
+
+no_test : (b : Bool) (c : Bool) → (b ≡ true → ⊥) → false ≡ (b && c)
+no_test true c not = absurd (not refl)
+no_test false c not = refl
+
+pub no_utf8 : (text : List ℕ) (b : Bool) → ¬ (IsUtf8 text) → false ≡ (is_utf8 text && b)
+no_utf8 text b not = no_test (is_utf8 text) b (λ is. not (IsUtf8-from_is_utf8 text is))
+
+same_test : (path : Option (List ℕ)) (b : Bool) → (IsSome path ↔ IsTrue b) → is_some path ≡ b
+same_test None true same = absurd (false≢true (same.1 refl))
+same_test None false same = refl
+same_test (Some p) true same = refl
+same_test (Some p) false same = absurd (false≢true (same.0 refl))
+
+and_true : (b : Bool) → b ≡ (b && true)
+and_true true = refl
+and_true false = refl
+
+pub a_source : (text t : List ℕ) (path : Option (List ℕ)) → IsUtf8 text → t ≡ text → (IsSome path ↔ IsTrue (is_path t)) → is_source t ≡ true
+    → is_some path ≡ (is_utf8 text && (is_path text && is_source text))
+a_source text t path utf8 same there source =
+    let utf : is_utf8 text ≡ true = is_utf8-from_IsUtf8 text utf8 in
+    let sources : is_source text ≡ true = subst (λ s. is_source s ≡ true) same source in
+    same_test path (is_path t) there
+    ∙ (ap is_path same ∙ (and_true (is_path text) ∙ (ap (λ b. is_path text && b) (sym sources) ∙ ap (λ b. b && (is_path text && is_source text)) (sym utf))))
 
 -- ---- the first refused value
 

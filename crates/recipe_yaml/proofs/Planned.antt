@@ -31,22 +31,22 @@ module _ (paths : KeyPathsOf) (book : RecipeBook) (name : List ℕ) where
     pub leaf_refused : (fault : RecipeFault) → None ≡ place_from 0 name recipes → IsOutcome (leaf_plan paths name) (Err fault) → fault ≢ NoMemory → plan_of paths book name ≡ Err fault
     leaf_refused fault none is not = by ∙ (ap by_place (sym (none ∙ ap (place_from 0 name) same)) ∙ is not)
 
-    module _ (r : ℕ) (d : Written) (around : List ℕ) (w v : Walked) (some : Some r ≡ place_from 0 name recipes) (lt : r < length recipes) (start : w ≡ nothing) where
-      walked : recipe (entry recipes paths LEVELS (r ∷ [])) [] (get_or recipes r d) w ≡ recipe (entry book.recipes paths LEVELS (r ∷ [])) [] (slice_index_or book.recipes r no_recipe) nothing
+    module _ (r : ℕ) (d : Written) (w v : Walked) (some : Some r ≡ place_from 0 name recipes) (lt : r < length recipes) (is_there : d ≡ get_or recipes r d) (start : w ≡ nothing) where
+      walked : recipe (entry recipes paths LEVELS (r ∷ [])) [] d w ≡ recipe (entry book.recipes paths LEVELS (r ∷ [])) [] (slice_index_or book.recipes r no_recipe) nothing
       walked =
-          ap (λ x. recipe (entry recipes paths LEVELS (r ∷ [])) [] x w) (get_or_default recipes r d no_recipe lt)
+          ap (λ x. recipe (entry recipes paths LEVELS (r ∷ [])) [] x w) (is_there ∙ get_or_default recipes r d no_recipe lt)
           ∙ (ap (λ x. recipe (entry x paths LEVELS (r ∷ [])) [] (slice_index_or x r no_recipe) w) same
           ∙ ap (recipe (entry book.recipes paths LEVELS (r ∷ [])) [] (slice_index_or book.recipes r no_recipe)) start)
 
-      pub recipe_planned : (u : Unit {0}) (plan : Plan) → IsGone (recipe (entry recipes paths LEVELS (r ∷ [])) [] (get_or recipes r d) w) (Ok u) v → plan ≡ plan_by v → plan_of paths book name ≡ Ok plan
+      pub recipe_planned : (u : Unit {0}) (plan : Plan) → IsGone (recipe (entry recipes paths LEVELS (r ∷ [])) [] d w) (Ok u) v → plan ≡ plan_by v → plan_of paths book name ≡ Ok plan
       recipe_planned u plan gone is =
           by ∙ (ap by_place (sym (some ∙ ap (place_from 0 name) same)) ∙ (ap (λ x. and_then x (λ w. Ok (plan_by w))) (sym walked ∙ gone) ∙ ap Ok (sym is)))
 
-      pub recipe_refused : (fault : RecipeFault) → IsGone (recipe (entry recipes paths LEVELS (r ∷ [])) [] (get_or recipes r d) w) (Err fault) v → fault ≢ NoMemory → plan_of paths book name ≡ Err fault
+      pub recipe_refused : (fault : RecipeFault) → IsGone (recipe (entry recipes paths LEVELS (r ∷ [])) [] d w) (Err fault) v → fault ≢ NoMemory → plan_of paths book name ≡ Err fault
       recipe_refused fault gone not =
           by ∙ (ap by_place (sym (some ∙ ap (place_from 0 name) same)) ∙ ap (λ x. and_then x (λ w. Ok (plan_by w))) (sym walked ∙ gone not))
 
 pub no_plan : (meant : Result Plan RecipeFault) (fault : RecipeFault) → fault ≡ NoMemory → fault ≢ NoMemory → meant ≡ Err fault
 no_plan meant fault is not = absurd (not is)
 
-pub ruleset planned = (leaf_planned, leaf_refused, recipe_planned, recipe_refused, no_plan)
+pub ruleset planned = (leaf_planned, no_plan)

@@ -61,10 +61,10 @@ fn is_given(options: &[WrittenOption], name: OptionName) -> bool
 fn taken_as(taken: &[TakenOption], key: &[u8]) -> Option<TakenOption>
     ensures { result ≡ taken_as taken.now key.now }
 {
-    taken
+    let option = taken
         .iter()
-        .find(|option| is_same(key, key_of(option.name)))
-        .copied()
+        .find(|option| is_same(key, key_of(option.name)))?;
+    Some(*option)
 }
 
 // A text spells a key path.
