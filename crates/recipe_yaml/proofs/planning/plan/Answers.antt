@@ -14,7 +14,7 @@ returns-in_err-walk_recipe-clause-fault c paths are =
     let some : Some c.in-Some.number ≡ place_from 0 c.args.name.now c.as_slice-recipes.result.now = c.in-Some.ensures.place in
     let lt : c.in-Some.number < length c.as_slice-recipes.result.now = c.in-Some.ensures.there in
     let f = recipe_refused paths c.args.book.now c.args.name.now c.as_slice-recipes.result.now c.as_slice-recipes.ensures c.in-Some.number c.index-recipes-number.result c.nothing-walked.result c.walk_recipe.new.walked some lt c.index-recipes-number.is c.nothing-walked.ensures
-        c.in_err-walk_recipe.field-0.0 (c.in_err-walk_recipe.ensures.gone paths are) in
+    c.in_err-walk_recipe.field-0.0 (c.in_err-walk_recipe.ensures.gone paths are) in
     search (rules, f)
 
 pub returns-clause-plan : goal.returns-clause-plan
