@@ -2,11 +2,12 @@
 ghost use Rattle.std.specs.Prelude.{◌≡◌, not, ◌&&◌, [], IfOk, IfSome};
 ghost use Rattle.std.specs.List.{list_any};
 ghost use Rattle.std.specs.Option.{is_some, option_map};
-ghost use Rattle.std.specs.Str.{is_utf8};
+ghost use Rattle.std.specs.Str.{bytes_eq, is_utf8};
 ghost use Rattle.rw_host.specs.Path.{is_path};
 ghost use Rattle.kept_files.specs.Kinds.{is_source};
 ghost use Rattle.recipe_yaml.specs.KeyPathTexts.{KeyPathsOf, AreKeyPaths};
 ghost use Rattle.recipe_yaml.specs.Faults.{IsOutcome};
+ghost use Rattle.recipe_yaml.specs.LeafNames.{key_of};
 ghost use Rattle.recipe_yaml.specs.Leaves.{allowed_as, allows, given, is_given, is_missed, is_missing, is_refused, is_unknown, leaf_recipe, options_fault, path_given, refused_place, taken_as, text_given, text_of, unknown_place, with_options};
 ghost use Rattle.recipe_yaml.specs.declared.leaf_name.OptionName.TheVariants as name;
 
@@ -56,14 +57,18 @@ fn is_given(options: &[WrittenOption], name: OptionName) -> bool
     given(options, name).is_some()
 }
 
+fn has_key(taken: &TakenOption, key: &[u8]) -> bool
+    ensures { result ≡ bytes_eq key.now (key_of taken.now.name) }
+{
+    is_same(key, key_of(taken.name))
+}
+
 // What a recipe takes under a key.
 #[tactic(auto, unfolding(crate::specs::Leaves::taken_as))]
 fn taken_as(taken: &[TakenOption], key: &[u8]) -> Option<TakenOption>
     ensures { result ≡ taken_as taken.now key.now }
 {
-    let option = taken
-        .iter()
-        .find(|option| is_same(key, key_of(option.name)))?;
+    let option = taken.iter().find(|option| has_key(option, key))?;
     Some(*option)
 }
 
