@@ -3,7 +3,7 @@ use Rattle.std.proofs.Common.{◌≡◌, ◌≢◌, ℕ, ◌+◌, ◌<◌, ◌�
 use Rattle.std.specs.Prelude.{◌↔◌, IsTrue, IsSome}
 use Rattle.std.specs.List.{find}
 use Rattle.std.specs.Option.{is_some, option_map}
-use Rattle.std.specs.Str.{IsUtf8, is_utf8}
+use Rattle.std.specs.Str.{IsUtf8, bytes_eq, is_utf8}
 use Rattle.std.proofs.lemmas.Bool.{false≢true}
 use Rattle.std.proofs.lemmas.Str.{IsUtf8-from_is_utf8, is_utf8-from_IsUtf8}
 use Rattle.std.proofs.lemmas.List.{drop_all}
@@ -13,7 +13,8 @@ use Rattle.kept_files.specs.Kinds.{is_source}
 use Rattle.yaml_tree.specs.declared.key_path.PathStep.{PathStep}
 use Rattle.yaml_tree.specs.KeyPaths.{IsKeyPath, IsWrongAt}
 use Rattle.recipe_yaml.specs.KeyPathTexts.{KeyPathsOf, AreKeyPaths}
-use Rattle.recipe_yaml.specs.Leaves.{is_refused, refused_place}
+use Rattle.recipe_yaml.specs.LeafNames.{key_of}
+use Rattle.recipe_yaml.specs.Leaves.{is_refused, refused_place, taken_as}
 use Rattle.recipe_yaml.specs.declared.book.WrittenOption.{WrittenOption}
 use Rattle.recipe_yaml.specs.declared.leaf_name.TakenOption.{TakenOption}
 use Rattle.recipe_yaml.proofs.Gone.{cut}
@@ -57,6 +58,23 @@ a_source text t path utf8 same there source =
     let sources : is_source text ≡ true = subst (λ s. is_source s ≡ true) same source in
     same_test path (is_path t) there
     ∙ (ap is_path same ∙ (and_true (is_path text) ∙ (ap (λ b. is_path text && b) (sym sources) ∙ ap (λ b. b && (is_path text && is_source text)) (sym utf))))
+
+-- ---- what is taken under a key
+
+module _ (ts : List TakenOption) (key : List ℕ) (i : ℕ) (a : Option TakenOption) where
+  pub taken_more : (d : TakenOption) → i < length ts → taken_as (drop i ts) key ≡ a → bytes_eq key (key_of (get_or ts i d).name) ≡ false → taken_as (drop (i + 1) ts) key ≡ a
+  unfolding taken_as
+  taken_more d lt e h = sym (ap (find (λ t. bytes_eq key (key_of t.name))) (cut ts i d lt) ∙ rw h refl) ∙ e
+
+  pub taken_here : (d : TakenOption) → i < length ts → taken_as (drop i ts) key ≡ a → bytes_eq key (key_of (get_or ts i d).name) ≡ true → Some (get_or ts i d) ≡ a
+  unfolding taken_as
+  taken_here d lt e h = sym (ap (find (λ t. bytes_eq key (key_of t.name))) (cut ts i d lt) ∙ rw h refl) ∙ e
+
+  pub taken_end : length ts ≤ i → taken_as (drop i ts) key ≡ a → None ≡ a
+  unfolding taken_as
+  taken_end le e = sym (ap (find (λ t. bytes_eq key (key_of t.name))) (drop_all i ts le)) ∙ e
+
+pub ruleset taken_by = (taken_more, taken_here, taken_end)
 
 -- ---- the first refused value
 

@@ -64,12 +64,16 @@ fn has_key(taken: &TakenOption, key: &[u8]) -> bool
 }
 
 // What a recipe takes under a key.
-#[tactic(auto, unfolding(crate::specs::Leaves::taken_as))]
+#[tactic(auto, using(crate::proofs::Options::taken_by))]
 fn taken_as(taken: &[TakenOption], key: &[u8]) -> Option<TakenOption>
     ensures { result ≡ taken_as taken.now key.now }
 {
-    let option = taken.iter().find(|option| has_key(option, key))?;
-    Some(*option)
+    for option in taken {
+        if has_key(option, key) {
+            return Some(*option);
+        }
+    }
+    None
 }
 
 // A text spells a key path.

@@ -1,5 +1,5 @@
 // The walk through the lists of a recipe.
-ghost use Rattle.std.specs.Prelude.{◌≡◌, ◌<◌, ◌≤◌, ◌&&◌, ◌||◌, ◌-◌, ◌==◌, ◌++◌, ◌∷◌, [], ℕ, IfOk, OnOk, IfSome, length, slice_index_or, Some, None, Ok, Err};
+ghost use Rattle.std.specs.Prelude.{◌≡◌, ◌<◌, ◌≤◌, nat_le, ◌&&◌, ◌||◌, ◌-◌, ◌==◌, ◌++◌, ◌∷◌, [], ℕ, IfOk, OnOk, IfSome, length, slice_index_or, Some, None, Ok, Err};
 ghost use Rattle.std.specs.List.{list_any};
 ghost use Rattle.std.specs.Option.{option_map};
 ghost use Rattle.recipe_yaml.specs.KeyPathTexts.{KeyPathsOf, AreKeyPaths};
@@ -55,6 +55,13 @@ fn leads(book: &[Written], leading: &[bool], r: usize) -> bool
     }
 }
 
+// So many entries were met that no more may be.
+fn is_full(met: u32) -> bool
+    ensures { result ≡ nat_le MOST_ENTRIES met }
+{
+    met >= MOST_ENTRIES
+}
+
 // The fault of an entry that names a recipe of the book, where so many entries were met before it.
 #[tactic(auto, unfolding(crate::specs::Walks::recipe_fault))]
 fn recipe_fault(
@@ -80,7 +87,7 @@ fn recipe_fault(
     if is_condition && leads(book, leading, r) {
         return Some(wrong(9, e.place));
     }
-    if met >= MOST_ENTRIES {
+    if is_full(met) {
         return Some(wrong(10, e.place));
     }
     None
@@ -95,7 +102,7 @@ fn leaf_fault(is_condition: bool, e: &WrittenEntry, met: u32) -> Option<RecipeFa
     if is_condition && scans(e.name.as_slice()) {
         return Some(wrong(9, e.place));
     }
-    if met >= MOST_ENTRIES {
+    if is_full(met) {
         return Some(wrong(10, e.place));
     }
     None
