@@ -136,46 +136,66 @@ module _ (walk : Entry) (e : WrittenEntry) (w v start : Walked) (above : List �
   unfolding condition
   condition_fault fault end gone is none not = ap (λ x. and_then x (λ v. Ok (closed w.leaves v))) (sym (opened_walk is none) ∙ gone not)
 
--- ---- a recipe
+-- ---- preconditions and lists
 
-pub recipe_start : (walk : Entry) (above positions : List ℕ) (r : Written) (w start : Walked) → positions ≡ above → start ≡ noted r.again w → and_then (conditions walk positions r.conditions start) (λ p. each (walk false p.1) r.list p.0) ≡ recipe walk above r w
-unfolding recipe
-recipe_start walk above positions r w start same is = ap (λ x. and_then (conditions walk x r.conditions start) (λ p. each (walk false p.1) r.list p.0)) same ∙ ap (λ x. and_then (conditions walk above r.conditions x) (λ p. each (walk false p.1) r.list p.0)) is
+pub conditions_start : (walk : Entry) (above positions : List ℕ) (es : List WrittenEntry) (w : Walked) → positions ≡ above → conditions walk positions es w ≡ conditions walk above es w
+conditions_start walk above positions es w same = ap (λ x. conditions walk x es w) same
 
-module _ (walk : Entry) (es : List WrittenEntry) (i : ℕ) (d : WrittenEntry) (above : List ℕ) (w v : Walked) (all : Went) where
+module _ (walk : Entry) (es : List WrittenEntry) (i : ℕ) (d : WrittenEntry) (above : List ℕ) (w v : Walked) where
   conditions_cut : i < length es → get_or es i d ≡ d → conditions walk above (drop i es) w ≡ and_then (condition walk d w) (λ v. conditions walk (above ++ (length v.conditions - 1) ∷ []) (drop (i + 1) es) v)
   unfolding conditions
   conditions_cut lt at = ap (λ xs. conditions walk above xs w) (cut es i d lt ∙ ap (λ x. x ∷ drop (i + 1) es) at)
 
-  pub conditions_more : (list : List WrittenEntry) (longer : List ℕ) (u : Unit {0}) → i < length es → get_or es i d ≡ d → and_then (conditions walk above (drop i es) w) (λ p. each (walk false p.1) list p.0) ≡ all
+  pub conditions_more : (all : Result (Walked × List ℕ) RecipeFault) (longer : List ℕ) (u : Unit {0}) → i < length es → get_or es i d ≡ d → conditions walk above (drop i es) w ≡ all
       → IsGone (condition walk d w) (Ok u) v → longer ≡ above ++ (length v.conditions - 1) ∷ []
-      → and_then (conditions walk longer (drop (i + 1) es) v) (λ p. each (walk false p.1) list p.0) ≡ all
-  conditions_more list longer u lt at e gone is =
-      ap (λ x. and_then (conditions walk x (drop (i + 1) es) v) (λ p. each (walk false p.1) list p.0)) is
-      ∙ (sym (ap (λ x. and_then x (λ p. each (walk false p.1) list p.0)) (conditions_cut lt at ∙ ap (λ x. and_then x (λ v. conditions walk (above ++ (length v.conditions - 1) ∷ []) (drop (i + 1) es) v)) gone)) ∙ e)
+      → conditions walk longer (drop (i + 1) es) v ≡ all
+  conditions_more all longer u lt at e gone is =
+      ap (λ x. conditions walk x (drop (i + 1) es) v) is
+      ∙ (sym (conditions_cut lt at ∙ ap (λ x. and_then x (λ v. conditions walk (above ++ (length v.conditions - 1) ∷ []) (drop (i + 1) es) v)) gone) ∙ e)
 
-  pub conditions_fault : (list : List WrittenEntry) (end : Walked) (fault : RecipeFault) → i < length es → get_or es i d ≡ d → and_then (conditions walk above (drop i es) w) (λ p. each (walk false p.1) list p.0) ≡ all
-      → IsGone (condition walk d w) (Err fault) v → IsGone all (Err fault) end
-  conditions_fault list end fault lt at e gone not =
-      sym e ∙ ap (λ x. and_then x (λ p. each (walk false p.1) list p.0)) (conditions_cut lt at ∙ ap (λ x. and_then x (λ v. conditions walk (above ++ (length v.conditions - 1) ∷ []) (drop (i + 1) es) v)) (gone not))
+  pub conditions_fault : (all : Result (Walked × List ℕ) RecipeFault) (fault : RecipeFault) → i < length es → get_or es i d ≡ d → conditions walk above (drop i es) w ≡ all
+      → IsGone (condition walk d w) (Err fault) v → fault ≢ NoMemory → all ≡ Err fault
+  conditions_fault all fault lt at e gone not =
+      sym e ∙ (conditions_cut lt at ∙ ap (λ x. and_then x (λ v. conditions walk (above ++ (length v.conditions - 1) ∷ []) (drop (i + 1) es) v)) (gone not))
 
   each_cut : i < length es → get_or es i d ≡ d → each (walk false above) (drop i es) w ≡ and_then (walk false above d w) (each (walk false above) (drop (i + 1) es))
   unfolding each
   each_cut lt at = ap (λ xs. each (walk false above) xs w) (cut es i d lt ∙ ap (λ x. x ∷ drop (i + 1) es) at)
 
-  pub each_more : (u : Unit {0}) → i < length es → get_or es i d ≡ d → each (walk false above) (drop i es) w ≡ all → IsGone (walk false above d w) (Ok u) v → each (walk false above) (drop (i + 1) es) v ≡ all
-  each_more u lt at e gone = sym (each_cut lt at ∙ ap (λ x. and_then x (each (walk false above) (drop (i + 1) es))) gone) ∙ e
+  pub each_more : (all : Went) (u : Unit {0}) → i < length es → get_or es i d ≡ d → each (walk false above) (drop i es) w ≡ all → IsGone (walk false above d w) (Ok u) v → each (walk false above) (drop (i + 1) es) v ≡ all
+  each_more all u lt at e gone = sym (each_cut lt at ∙ ap (λ x. and_then x (each (walk false above) (drop (i + 1) es))) gone) ∙ e
 
-  pub each_fault : (end : Walked) (fault : RecipeFault) → i < length es → get_or es i d ≡ d → each (walk false above) (drop i es) w ≡ all → IsGone (walk false above d w) (Err fault) v → IsGone all (Err fault) end
-  each_fault end fault lt at e gone not = sym e ∙ (each_cut lt at ∙ ap (λ x. and_then x (each (walk false above) (drop (i + 1) es))) (gone not))
+  pub each_fault : (all : Went) (end : Walked) (fault : RecipeFault) → i < length es → get_or es i d ≡ d → each (walk false above) (drop i es) w ≡ all → IsGone (walk false above d w) (Err fault) v → IsGone all (Err fault) end
+  each_fault all end fault lt at e gone not = sym e ∙ (each_cut lt at ∙ ap (λ x. and_then x (each (walk false above) (drop (i + 1) es))) (gone not))
 
-module _ (walk : Entry) (es : List WrittenEntry) (i : ℕ) (above : List ℕ) (w : Walked) (all : Went) where
-  pub conditions_end : (list : List WrittenEntry) → length es ≤ i → and_then (conditions walk above (drop i es) w) (λ p. each (walk false p.1) list p.0) ≡ all → each (walk false above) list w ≡ all
+module _ (walk : Entry) (es : List WrittenEntry) (i : ℕ) (above : List ℕ) (w : Walked) where
+  pub conditions_end : (all : Result (Walked × List ℕ) RecipeFault) → length es ≤ i → conditions walk above (drop i es) w ≡ all → all ≡ Ok (w, above)
   unfolding conditions
-  conditions_end list le e = sym (ap (λ xs. and_then (conditions walk above xs w) (λ p. each (walk false p.1) list p.0)) (drop_all i es le)) ∙ e
+  conditions_end all le e = sym e ∙ ap (λ xs. conditions walk above xs w) (drop_all i es le)
 
-  pub each_end : (u : Unit {0}) → length es ≤ i → each (walk false above) (drop i es) w ≡ all → IsGone all (Ok u) w
+  pub each_end : (all : Went) → length es ≤ i → each (walk false above) (drop i es) w ≡ all → all ≡ Ok w
   unfolding each
-  each_end u le e = sym e ∙ ap (λ xs. each (walk false above) xs w) (drop_all i es le)
+  each_end all le e = sym e ∙ ap (λ xs. each (walk false above) xs w) (drop_all i es le)
 
-pub ruleset walks = (no_memory, no_level, entry_leaf, entry_fault, entry_recipe, condition_goes, condition_fault, recipe_start, conditions_more, conditions_fault, conditions_end, each_more, each_fault, each_end)
+-- ---- a recipe
+
+module _ (walk : Entry) (above : List ℕ) (r : Written) (w start : Walked) (es : List WrittenEntry) where
+  pub recipe_fault_in_conditions : (fault : RecipeFault) → start ≡ noted r.again w → es ≡ r.conditions
+      → (fault ≢ NoMemory → conditions walk above es start ≡ Err fault) → fault ≢ NoMemory → recipe walk above r w ≡ Err fault
+  unfolding recipe
+  recipe_fault_in_conditions fault is same gone not =
+      ap (λ x. and_then (conditions walk above x (noted r.again w)) (λ p. each (walk false p.1) r.list p.0)) (sym same)
+      ∙ (ap (λ x. and_then (conditions walk above es x) (λ p. each (walk false p.1) r.list p.0)) (sym is)
+      ∙ ap (λ x. and_then x (λ p. each (walk false p.1) r.list p.0)) (gone not))
+
+  pub recipe_goes : (v : Walked) (positions given : List ℕ) (list : List WrittenEntry) (all : Went) → start ≡ noted r.again w → es ≡ r.conditions
+      → conditions walk above es start ≡ Ok (v, positions) → list ≡ r.list → given ≡ positions → each (walk false given) list v ≡ all → recipe walk above r w ≡ all
+  unfolding recipe
+  recipe_goes v positions given list all is same gone listed as_given e =
+      ap (λ x. and_then (conditions walk above x (noted r.again w)) (λ p. each (walk false p.1) r.list p.0)) (sym same)
+      ∙ (ap (λ x. and_then (conditions walk above es x) (λ p. each (walk false p.1) r.list p.0)) (sym is)
+      ∙ (ap (λ x. and_then x (λ p. each (walk false p.1) r.list p.0)) gone
+      ∙ (ap (λ x. each (walk false positions) x v) (sym listed)
+      ∙ (ap (λ x. each (walk false x) list v) (sym as_given) ∙ e))))
+
+pub ruleset walks = (no_memory, no_level, entry_leaf, entry_fault, entry_recipe, condition_goes, condition_fault)

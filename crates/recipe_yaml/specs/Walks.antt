@@ -1,5 +1,6 @@
 -- The walk through the lists of a recipe, and what it makes.
 use Rattle.std.specs.Prelude.{◌≡◌, ◌≢◌, ℕ, zero, suc, ◌+◌, ◌-◌, ◌==◌, Bool, true, false, ◌||◌, ◌&&◌, nat_le, List, [], ◌∷◌, ◌++◌, length, slice_index_or, Option, Some, None, Result, Ok, Err}
+use Rattle.std.specs.Global.{Vec}
 use Rattle.std.specs.List.{list_any}
 use Rattle.recipe_yaml.specs.KeyPathTexts.{KeyPathsOf}
 use Rattle.recipe_yaml.specs.Faults.{wrong_if, first_of, without, and_then}
@@ -98,6 +99,11 @@ module _ (book : List Written) where
     | Some r ↦ without (recipe_fault around is_condition r e w.met)
         (recipe (entry paths levels (around ++ r ∷ [])) above (slice_index_or book r no_recipe) (counted w))
   ]
+
+-- preconditions led this far, with these positions, or to this fault, unless memory was wanted
+abbrev pub IsListed : Result (Walked × List ℕ) RecipeFault → Result (Vec ℕ) RecipeFault → Walked → Type 0
+IsListed went (Ok positions) w = went ≡ Ok (w, positions.items)
+IsListed went (Err fault) w = fault ≢ NoMemory → went ≡ Err fault
 
 -- a walk came this far, or met this fault, unless memory was wanted
 abbrev pub IsGone : Went → Result (Unit {0}) RecipeFault → Walked → Type 0

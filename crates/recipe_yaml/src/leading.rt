@@ -1,5 +1,5 @@
 // Which recipes lead to scanning ones.
-ghost use Rattle.std.specs.Prelude.{◌≡◌, ◌<◌, ◌||◌, ◌++◌, IsTrue, false, length, map, slice_index_or, IfOk, IfSome};
+ghost use Rattle.std.specs.Prelude.{◌≡◌, ◌<◌, ◌||◌, IsTrue, false, length, slice_index_or, IfOk, IfSome};
 ghost use Rattle.std.specs.List.{list_any};
 ghost use Rattle.std.specs.Str.{bytes_eq};
 ghost use Rattle.recipe_yaml.specs.Leading.{place_from, scans, entry_leads, recipe_leads, next_column, column, leads, AnyNumberLeads};
@@ -13,11 +13,11 @@ use std::alloc::Global;
 #[tactic(auto, using(crate::proofs::Gone::places))]
 pub(crate) fn place_of(book: &[Written], name: &[u8]) -> Option<usize>
     ensures place { result ≡ place_from 0 name.now book.now }
-    ensures there { IfSome result (λ r. r < length book.now) }
+    ensures there { IfSome result (λ number. number < length book.now) }
 {
-    for (k, written) in book.iter().enumerate() {
-        if is_same(written.name.as_slice(), name) {
-            return Some(k);
+    for (number, recipe) in book.iter().enumerate() {
+        if is_same(recipe.name.as_slice(), name) {
+            return Some(number);
         }
     }
     None
@@ -34,31 +34,31 @@ pub(crate) fn scans(name: &[u8]) -> bool
     }
 }
 
-fn is_set(column: &[bool], r: usize) -> bool
-    ensures { result ≡ slice_index_or column.now r false }
+fn is_set(column: &[bool], number: usize) -> bool
+    ensures { result ≡ slice_index_or column.now number false }
 {
-    match column.get(r) {
+    match column.get(number) {
         Some(is_set) => *is_set,
         None => false,
     }
 }
 
 #[tactic(auto, using(crate::proofs::Led::entry_by))]
-fn entry_leads(book: &[Written], column: &[bool], e: &WrittenEntry) -> bool
-    ensures { result ≡ entry_leads book.now column.now e.now }
+fn entry_leads(book: &[Written], column: &[bool], entry: &WrittenEntry) -> bool
+    ensures { result ≡ entry_leads book.now column.now entry.now }
 {
-    match place_of(book, e.name.as_slice()) {
-        None => scans(e.name.as_slice()),
-        Some(r) => is_set(column, r),
+    match place_of(book, entry.name.as_slice()) {
+        None => scans(entry.name.as_slice()),
+        Some(number) => is_set(column, number),
     }
 }
 
 #[tactic(auto, using(crate::proofs::Gone::any_by))]
-fn any_leads(book: &[Written], column: &[bool], es: &[WrittenEntry]) -> bool
-    ensures { result ≡ list_any (entry_leads book.now column.now) es.now }
+fn any_leads(book: &[Written], column: &[bool], entries: &[WrittenEntry]) -> bool
+    ensures { result ≡ list_any (entry_leads book.now column.now) entries.now }
 {
-    for e in es {
-        if entry_leads(book, column, e) {
+    for entry in entries {
+        if entry_leads(book, column, entry) {
             return true;
         }
     }
@@ -66,11 +66,11 @@ fn any_leads(book: &[Written], column: &[bool], es: &[WrittenEntry]) -> bool
 }
 
 #[tactic(auto, unfolding(crate::specs::Leading::recipe_leads))]
-fn recipe_leads(book: &[Written], column: &[bool], r: &Written) -> bool
-    ensures { result ≡ recipe_leads book.now column.now r.now }
+fn recipe_leads(book: &[Written], column: &[bool], recipe: &Written) -> bool
+    ensures { result ≡ recipe_leads book.now column.now recipe.now }
 {
-    let first = any_leads(book, column, r.conditions.as_slice());
-    let second = any_leads(book, column, r.list.as_slice());
+    let first = any_leads(book, column, recipe.conditions.as_slice());
+    let second = any_leads(book, column, recipe.list.as_slice());
     first || second
 }
 
@@ -80,8 +80,8 @@ fn next_column(alloc: Global, book: &[Written], column: &[bool]) -> Mem<Vec<bool
     ensures { IfOk result (λ next. next.items ≡ next_column book.now column.now) }
 {
     let mut next = Vec::with_capacity(alloc, book.len())?;
-    for r in book {
-        next.push(recipe_leads(book, column, r))?;
+    for recipe in book {
+        next.push(recipe_leads(book, column, recipe))?;
     }
     Ok(next)
 }

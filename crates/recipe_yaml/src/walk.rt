@@ -1,10 +1,11 @@
 // The walk through the lists of a recipe.
-ghost use Rattle.std.specs.Prelude.{◌≡◌, ◌<◌, ◌≤◌, nat_le, ◌&&◌, ◌||◌, ◌-◌, ◌==◌, ◌++◌, ◌∷◌, [], ℕ, IfOk, OnOk, IfSome, length, slice_index_or, Some, None, Ok, Err};
+ghost use Rattle.std.specs.Prelude.{◌≡◌, ◌<◌, ◌≤◌, nat_le, ◌&&◌, ◌||◌, ◌-◌, ◌==◌, ◌++◌, ◌∷◌, []};
+ghost use Rattle.std.specs.Prelude.{OnOk, length, Some, None};
 ghost use Rattle.std.specs.List.{list_any};
-ghost use Rattle.std.specs.Option.{option_map};
 ghost use Rattle.recipe_yaml.specs.KeyPathTexts.{KeyPathsOf, AreKeyPaths};
-ghost use Rattle.recipe_yaml.specs.Leading.{place_from, leads, column};
-ghost use Rattle.recipe_yaml.specs.Walks.{recipe_fault, leaf_fault, leaf_entry, entry, recipe, each, condition, conditions, counted, opened, closed, noted, no_recipe, IsGone};
+ghost use Rattle.recipe_yaml.specs.Leading.{leads, column};
+ghost use Rattle.recipe_yaml.specs.Walks.{recipe_fault, leaf_fault, leaf_entry, entry, recipe, each};
+ghost use Rattle.recipe_yaml.specs.Walks.{condition, conditions, opened, closed, noted, IsGone, IsListed};
 
 use crate::book::{Written, WrittenEntry};
 use crate::fault::{RecipeFault, wrong};
@@ -32,11 +33,11 @@ pub struct Walked {
 }
 
 #[tactic(auto, using(crate::proofs::Gone::any_by))]
-fn is_around(around: &[usize], r: usize) -> bool
-    ensures { result ≡ list_any (λ a. a == r) around.now }
+fn is_around(around: &[usize], number: usize) -> bool
+    ensures { result ≡ list_any (λ a. a == number) around.now }
 {
-    for a in around {
-        if *a == r {
+    for outer in around {
+        if *outer == number {
             return true;
         }
     }
@@ -44,12 +45,12 @@ fn is_around(around: &[usize], r: usize) -> bool
 }
 
 #[tactic(auto, unfolding(crate::specs::Leading::leads))]
-fn leads(book: &[Written], leading: &[bool], r: usize) -> bool
+fn leads(book: &[Written], leading: &[bool], number: usize) -> bool
     requires { leading.now ≡ column book.now (length book.now) }
-    ensures { result ≡ leads book.now r }
+    ensures { result ≡ leads book.now number }
 {
     let _ = book;
-    match leading.get(r) {
+    match leading.get(number) {
         Some(leads) => *leads,
         None => false,
     }
@@ -69,41 +70,41 @@ fn recipe_fault(
     leading: &[bool],
     around: &[usize],
     is_condition: bool,
-    r: usize,
-    e: &WrittenEntry,
+    number: usize,
+    listed: &WrittenEntry,
     met: u32,
 ) -> Option<RecipeFault>
-    requires there { r < length book.now }
+    requires there { number < length book.now }
     requires leading { leading.now ≡ column book.now (length book.now) }
-    ensures fault { result ≡ recipe_fault book.now around.now is_condition r e.now met }
+    ensures fault { result ≡ recipe_fault book.now around.now is_condition number listed.now met }
     ensures few { result ≡ None → met < MOST_ENTRIES }
 {
-    if let Some(option) = e.options.get(0) {
+    if let Some(option) = listed.options.get(0) {
         return Some(wrong(6, option.key_place));
     }
-    if is_around(around, r) {
-        return Some(wrong(8, e.place));
+    if is_around(around, number) {
+        return Some(wrong(8, listed.place));
     }
-    if is_condition && leads(book, leading, r) {
-        return Some(wrong(9, e.place));
+    if is_condition && leads(book, leading, number) {
+        return Some(wrong(9, listed.place));
     }
     if is_full(met) {
-        return Some(wrong(10, e.place));
+        return Some(wrong(10, listed.place));
     }
     None
 }
 
 // The fault of an entry that names a leaf recipe, where so many entries were met before it.
 #[tactic(auto, unfolding(crate::specs::Walks::leaf_fault))]
-fn leaf_fault(is_condition: bool, e: &WrittenEntry, met: u32) -> Option<RecipeFault>
-    ensures fault { result ≡ leaf_fault is_condition e.now met }
+fn leaf_fault(is_condition: bool, listed: &WrittenEntry, met: u32) -> Option<RecipeFault>
+    ensures fault { result ≡ leaf_fault is_condition listed.now met }
     ensures few { result ≡ None → met < MOST_ENTRIES }
 {
-    if is_condition && scans(e.name.as_slice()) {
-        return Some(wrong(9, e.place));
+    if is_condition && scans(listed.name.as_slice()) {
+        return Some(wrong(9, listed.place));
     }
     if is_full(met) {
-        return Some(wrong(10, e.place));
+        return Some(wrong(10, listed.place));
     }
     None
 }
@@ -114,20 +115,21 @@ fn leaf_entry(
     alloc: Global,
     is_condition: bool,
     above: &[u32],
-    e: &WrittenEntry,
+    listed: &WrittenEntry,
     walked: &mut Walked,
 ) -> Result<(), RecipeFault>
     requires { walked.old.met ≤ MOST_ENTRIES }
-    ensures gone { (paths : KeyPathsOf) → AreKeyPaths paths → IsGone (leaf_entry paths is_condition above.now e.now walked.old) result walked.new }
+    ensures gone { (paths : KeyPathsOf) → AreKeyPaths paths →
+        IsGone (leaf_entry paths is_condition above.now listed.now walked.old) result walked.new }
     ensures few { OnOk result (walked.new.met ≤ MOST_ENTRIES) }
 {
-    let recipe = leaf_recipe(alloc, e)?;
-    if let Some(fault) = leaf_fault(is_condition, e, walked.met) {
+    let recipe = leaf_recipe(alloc, listed)?;
+    if let Some(fault) = leaf_fault(is_condition, listed, walked.met) {
         return Err(fault);
     }
     let leaf = PlannedLeaf {
         recipe,
-        name: Text::from_slice(alloc, e.name.as_slice())?,
+        name: Text::from_slice(alloc, listed.name.as_slice())?,
         conditions: Items::from_slice(alloc, above)?,
     };
     walked.leaves.push(leaf)?;
@@ -186,26 +188,29 @@ fn walk_entry(
     around: &[usize],
     is_condition: bool,
     above: &[u32],
-    e: &WrittenEntry,
+    listed: &WrittenEntry,
     walked: &mut Walked,
 ) -> Result<(), RecipeFault>
     requires few { walked.old.met ≤ MOST_ENTRIES }
     requires leading { leading.now ≡ column book.now (length book.now) }
-    ensures gone { (paths : KeyPathsOf) → AreKeyPaths paths → IsGone (entry book.now paths levels around.now is_condition above.now e.now walked.old) result walked.new }
+    ensures gone { (paths : KeyPathsOf) → AreKeyPaths paths →
+        IsGone (entry book.now paths levels around.now is_condition above.now listed.now walked.old) result walked.new }
     ensures few { OnOk result (walked.new.met ≤ MOST_ENTRIES) }
 {
     if levels == 0 {
-        return Err(wrong(10, e.place));
+        return Err(wrong(10, listed.place));
     }
-    let Some(r) = place_of(book, e.name.as_slice()) else {
-        return leaf_entry(alloc, is_condition, above, e, walked);
+    let Some(number) = place_of(book, listed.name.as_slice()) else {
+        return leaf_entry(alloc, is_condition, above, listed, walked);
     };
-    if let Some(fault) = recipe_fault(book, leading, around, is_condition, r, e, walked.met) {
+    if let Some(fault) = recipe_fault(
+        book, leading, around, is_condition, number, listed, walked.met,
+    ) {
         return Err(fault);
     }
     walked.met += 1;
     let mut inside = Vec::from_slice(alloc, around)?;
-    inside.push(r)?;
+    inside.push(number)?;
     walk_recipe(
         alloc,
         book,
@@ -213,7 +218,7 @@ fn walk_entry(
         levels - 1,
         &inside,
         above,
-        &book[r],
+        &book[number],
         walked,
     )
 }
@@ -233,21 +238,47 @@ pub(crate) fn walk_recipe(
 ) -> Result<(), RecipeFault>
     requires few { walked.old.met ≤ MOST_ENTRIES }
     requires leading { leading.now ≡ column book.now (length book.now) }
-    ensures gone { (paths : KeyPathsOf) → AreKeyPaths paths → IsGone (recipe (entry book.now paths levels around.now) above.now written.now walked.old) result walked.new }
+    ensures gone { (paths : KeyPathsOf) → AreKeyPaths paths →
+        IsGone (recipe (entry book.now paths levels around.now) above.now written.now walked.old) result walked.new }
     ensures few { OnOk result (walked.new.met ≤ MOST_ENTRIES) }
 {
     note(walked, written.again);
+    let conditions = written.conditions.as_slice();
+    let positions = walk_conditions(
+        alloc, book, leading, levels, around, above, conditions, walked,
+    )?;
+    let list = written.list.as_slice();
+    walk_list(
+        alloc, book, leading, levels, around, &positions, list, walked,
+    )?;
+    Ok(())
+}
+
+// Preconditions one after another, and the positions of those around and of these.
+#[cycle(walk)]
+#[tactic(auto, using(crate::proofs::Gone::walks))]
+fn walk_conditions(
+    alloc: Global,
+    book: &[Written],
+    leading: &[bool],
+    levels: u32,
+    around: &[usize],
+    above: &[u32],
+    entries: &[WrittenEntry],
+    walked: &mut Walked,
+) -> Result<Vec<u32>, RecipeFault>
+    requires few { walked.old.met ≤ MOST_ENTRIES }
+    requires leading { leading.now ≡ column book.now (length book.now) }
+    ensures gone { (paths : KeyPathsOf) → AreKeyPaths paths →
+        IsListed (conditions (entry book.now paths levels around.now) above.now entries.now walked.old) result walked.new }
+    ensures few { OnOk result (walked.new.met ≤ MOST_ENTRIES) }
+{
     let mut positions = Vec::from_slice(alloc, above)?;
-    for e in written.conditions.as_slice() {
-        walk_condition(alloc, book, leading, levels, around, e, walked)?;
+    for listed in entries {
+        walk_condition(alloc, book, leading, levels, around, listed, walked)?;
         push_position(&mut positions, walked)?;
     }
-    for e in written.list.as_slice() {
-        walk_entry(
-            alloc, book, leading, levels, around, false, &positions, e, walked,
-        )?;
-    }
-    Ok(())
+    Ok(positions)
 }
 
 // A precondition.
@@ -259,16 +290,46 @@ fn walk_condition(
     leading: &[bool],
     levels: u32,
     around: &[usize],
-    e: &WrittenEntry,
+    listed: &WrittenEntry,
     walked: &mut Walked,
 ) -> Result<(), RecipeFault>
     requires few { walked.old.met ≤ MOST_ENTRIES }
     requires leading { leading.now ≡ column book.now (length book.now) }
-    ensures gone { (paths : KeyPathsOf) → AreKeyPaths paths → IsGone (condition (entry book.now paths levels around.now) e.now walked.old) result walked.new }
+    ensures gone { (paths : KeyPathsOf) → AreKeyPaths paths →
+        IsGone (condition (entry book.now paths levels around.now) listed.now walked.old) result walked.new }
     ensures few { OnOk result (walked.new.met ≤ MOST_ENTRIES) }
 {
     let outer = open(alloc, walked);
-    walk_entry(alloc, book, leading, levels, around, true, &[], e, walked)?;
+    walk_entry(
+        alloc, book, leading, levels, around, true, &[], listed, walked,
+    )?;
     close(walked, outer)?;
+    Ok(())
+}
+
+// The list of a recipe, under the preconditions at these positions.
+#[cycle(walk)]
+#[tactic(auto, using(crate::proofs::Gone::walks))]
+fn walk_list(
+    alloc: Global,
+    book: &[Written],
+    leading: &[bool],
+    levels: u32,
+    around: &[usize],
+    above: &[u32],
+    entries: &[WrittenEntry],
+    walked: &mut Walked,
+) -> Result<(), RecipeFault>
+    requires few { walked.old.met ≤ MOST_ENTRIES }
+    requires leading { leading.now ≡ column book.now (length book.now) }
+    ensures gone { (paths : KeyPathsOf) → AreKeyPaths paths →
+        IsGone (each (entry book.now paths levels around.now false above.now) entries.now walked.old) result walked.new }
+    ensures few { OnOk result (walked.new.met ≤ MOST_ENTRIES) }
+{
+    for listed in entries {
+        walk_entry(
+            alloc, book, leading, levels, around, false, above, listed, walked,
+        )?;
+    }
     Ok(())
 }
