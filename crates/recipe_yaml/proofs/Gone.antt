@@ -198,4 +198,9 @@ module _ (walk : Entry) (above : List ℕ) (r : Written) (w start : Walked) (es 
       ∙ (ap (λ x. each (walk false positions) x v) (sym listed)
       ∙ (ap (λ x. each (walk false x) list v) (sym as_given) ∙ e))))
 
+  pub recipe_fault_in_list : (v : Walked) (positions given : List ℕ) (list : List WrittenEntry) (fault : RecipeFault) → start ≡ noted r.again w → es ≡ r.conditions
+      → conditions walk above es start ≡ Ok (v, positions) → list ≡ r.list → given ≡ positions → (fault ≢ NoMemory → each (walk false given) list v ≡ Err fault)
+      → fault ≢ NoMemory → recipe walk above r w ≡ Err fault
+  recipe_fault_in_list v positions given list fault is same gone listed as_given e not = recipe_goes v positions given list (Err fault) is same gone listed as_given (e not)
+
 pub ruleset walks = (no_memory, no_level, entry_leaf, entry_fault, entry_recipe, condition_goes, condition_fault)

@@ -47,4 +47,5 @@ module _ (book : List Written) where
 
 -- What leads to a scanning recipe through any number of others is found through as many as the book has.
 abbrev pub AnyNumberLeads : Type 0
-AnyNumberLeads = (book : List Written) (k r : ℕ) → IsTrue (slice_index_or (column book k) r false) → IsTrue (leads book r)
+AnyNumberLeads =
+    (book : List Written) (k r : ℕ) → IsTrue (slice_index_or (column book k) r false) → IsTrue (leads book r)

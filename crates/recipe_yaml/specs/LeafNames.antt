@@ -74,7 +74,8 @@ may option kind = record { name = option; kind = kind; is_required = false }
 
 -- the options that a leaf recipe takes, and what their values are to be
 unfoldable pub taken_by : LeafName → List TakenOption
-taken_by leaf.PropertiesChangePropertyKey = needs name.OldPropertyKey value.Text ∷ needs name.NewPropertyKey value.Text ∷ []
+taken_by leaf.PropertiesChangePropertyKey =
+    needs name.OldPropertyKey value.Text ∷ needs name.NewPropertyKey value.Text ∷ []
 taken_by leaf.ChangePropertyValue =
     needs name.PropertyKey value.Text ∷ needs name.NewValue value.Text ∷ may name.OldValue value.Text ∷ []
 taken_by leaf.DeleteProperty = needs name.PropertyKey value.Text ∷ []
@@ -82,7 +83,8 @@ taken_by leaf.AddProperty = needs name.Property value.Text ∷ needs name.Value 
 taken_by leaf.ChangeKey = needs name.OldKeyPath value.KeyPath ∷ needs name.NewKey value.YamlScalar ∷ []
 taken_by leaf.ChangeValue = needs name.KeyPath value.KeyPath ∷ needs name.Value value.YamlScalar ∷ []
 taken_by leaf.DeleteKey = needs name.KeyPath value.KeyPath ∷ []
-taken_by leaf.YamlChangePropertyKey = needs name.OldPropertyKey value.Text ∷ needs name.NewPropertyKey value.YamlScalar ∷ []
+taken_by leaf.YamlChangePropertyKey =
+    needs name.OldPropertyKey value.Text ∷ needs name.NewPropertyKey value.YamlScalar ∷ []
 taken_by leaf.FindSourceFiles = needs name.FilePattern value.Text ∷ []
 taken_by leaf.DeleteSourceFiles = needs name.FilePattern value.Text ∷ []
 taken_by leaf.CreateTextFile = needs name.FileContents value.Text ∷ needs name.RelativeFileName value.SourceFile ∷ []

@@ -1,5 +1,6 @@
 -- Leaf recipes of entries: which entries are one, and what it is then asked.
-use Rattle.std.specs.Prelude.{ℕ, Bool, true, false, not, ◌&&◌, List, [], ◌∷◌, slice_index_or, Option, Some, None, Result, Ok, Err, if◌then◌else◌}
+use Rattle.std.specs.Prelude.{ℕ, Bool, true, not, ◌&&◌, List, [], ◌∷◌, slice_index_or, Option, Some, None}
+use Rattle.std.specs.Prelude.{Result, Ok, Err}
 use Rattle.std.specs.List.{find, list_any}
 use Rattle.std.specs.Option.{is_some, option_map, unwrap_or}
 use Rattle.std.specs.Str.{bytes_eq, is_utf8}
@@ -102,7 +103,8 @@ with_options paths leaf.ChangePropertyValue os = recipe.ChangePropertyValue (rec
   new_value = text_given name.NewValue os;
   old_value = given name.OldValue os;
 })
-with_options paths leaf.DeleteProperty os = recipe.DeleteProperty (record { property_key = text_given name.PropertyKey os })
+with_options paths leaf.DeleteProperty os = recipe.DeleteProperty (record {
+    property_key = text_given name.PropertyKey os })
 with_options paths leaf.AddProperty os = recipe.AddProperty (record {
   property = text_given name.Property os;
   value = text_given name.Value os;
@@ -115,13 +117,16 @@ with_options paths leaf.ChangeValue os = recipe.ChangeValue (record {
   key_path = path_given paths name.KeyPath os;
   value = text_given name.Value os;
 })
-with_options paths leaf.DeleteKey os = recipe.DeleteKey (record { key_path = path_given paths name.KeyPath os })
+with_options paths leaf.DeleteKey os = recipe.DeleteKey (record {
+    key_path = path_given paths name.KeyPath os })
 with_options paths leaf.YamlChangePropertyKey os = recipe.YamlChangePropertyKey (record {
   old_property_key = text_given name.OldPropertyKey os;
   new_property_key = text_given name.NewPropertyKey os;
 })
-with_options paths leaf.FindSourceFiles os = recipe.FindSourceFiles (record { file_pattern = text_given name.FilePattern os })
-with_options paths leaf.DeleteSourceFiles os = recipe.DeleteSourceFiles (record { file_pattern = text_given name.FilePattern os })
+with_options paths leaf.FindSourceFiles os = recipe.FindSourceFiles (record {
+    file_pattern = text_given name.FilePattern os })
+with_options paths leaf.DeleteSourceFiles os = recipe.DeleteSourceFiles (record {
+    file_pattern = text_given name.FilePattern os })
 with_options paths leaf.CreateTextFile os = recipe.CreateTextFile (record {
   file_contents = text_given name.FileContents os;
   relative_file_name = text_given name.RelativeFileName os;

@@ -1,5 +1,5 @@
 -- The plan of a recipe.
-use Rattle.std.specs.Prelude.{ℕ, Bool, false, List, [], ◌∷◌, slice_index_or, Option, Some, None, Result, Ok, Err, if◌then◌else◌}
+use Rattle.std.specs.Prelude.{ℕ, false, List, [], ◌∷◌, slice_index_or, Some, None, Result, Ok, Err, if◌then◌else◌}
 use Rattle.std.specs.List.{list_any}
 use Rattle.recipe_yaml.specs.KeyPathTexts.{KeyPathsOf}
 use Rattle.recipe_yaml.specs.Faults.{and_then}
@@ -38,6 +38,7 @@ leaf_plan paths name = elim (leaf_named name) [
 unfoldable pub plan_of : KeyPathsOf → RecipeBook → List ℕ → Result Plan RecipeFault
 plan_of paths book name = elim (place_from 0 name book.recipes) [
   | None ↦ leaf_plan paths name
-  | Some r ↦ and_then (recipe (entry book.recipes paths LEVELS (r ∷ [])) [] (slice_index_or book.recipes r no_recipe) nothing)
+  | Some r ↦ and_then
+      (recipe (entry book.recipes paths LEVELS (r ∷ [])) [] (slice_index_or book.recipes r no_recipe) nothing)
       (λ w. Ok (plan_by w))
 ]

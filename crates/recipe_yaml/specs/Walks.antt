@@ -34,7 +34,12 @@ abbrev pub opened : Walked → Walked
 opened w = record { met = w.met; again = w.again; leaves = []; conditions = w.conditions }
 
 abbrev pub closed : List PlannedLeaf → Walked → Walked
-closed leaves w = record { met = w.met; again = w.again; leaves = leaves; conditions = w.conditions ++ record { leaves = w.leaves } ∷ [] }
+closed leaves w = record {
+  met = w.met;
+  again = w.again;
+  leaves = leaves;
+  conditions = w.conditions ++ record { leaves = w.leaves } ∷ [];
+}
 
 -- The preconditions of recipes around a precondition aren't those of its leaves.
 unfoldable pub condition : Entry → WrittenEntry → Walked → Went

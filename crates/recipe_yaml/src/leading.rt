@@ -2,7 +2,8 @@
 ghost use Rattle.std.specs.Prelude.{◌≡◌, ◌<◌, ◌||◌, IsTrue, false, length, slice_index_or, IfOk, IfSome};
 ghost use Rattle.std.specs.List.{list_any};
 ghost use Rattle.std.specs.Str.{bytes_eq};
-ghost use Rattle.recipe_yaml.specs.Leading.{place_from, scans, entry_leads, recipe_leads, next_column, column, leads, AnyNumberLeads};
+ghost use Rattle.recipe_yaml.specs.Leading.{place_from, scans, entry_leads, recipe_leads};
+ghost use Rattle.recipe_yaml.specs.Leading.{next_column, column, AnyNumberLeads};
 
 use crate::book::{Written, WrittenEntry};
 use crate::leaf_name::{is_same, is_scanner, leaf_named};

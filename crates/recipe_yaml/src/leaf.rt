@@ -8,8 +8,11 @@ ghost use Rattle.kept_files.specs.Kinds.{is_source};
 ghost use Rattle.recipe_yaml.specs.KeyPathTexts.{KeyPathsOf, AreKeyPaths};
 ghost use Rattle.recipe_yaml.specs.Faults.{IsOutcome};
 ghost use Rattle.recipe_yaml.specs.LeafNames.{key_of};
-ghost use Rattle.recipe_yaml.specs.Leaves.{allowed_as, allows, given, is_given, is_missed, is_missing, is_refused, is_unknown, leaf_recipe, options_fault, path_given, refused_place, taken_as, text_given, text_of, unknown_place, with_options};
-ghost use Rattle.recipe_yaml.specs.declared.leaf_name.OptionName.TheVariants as name;
+ghost use Rattle.recipe_yaml.specs.Leaves.{allows, given, is_given, is_missed, is_missing, is_refused, is_unknown};
+ghost use Rattle.recipe_yaml.specs.Leaves.{leaf_recipe, options_fault, path_given, refused_place, taken_as, text_given};
+ghost use Rattle.recipe_yaml.specs.Leaves.{text_of, unknown_place, with_options};
+ghost use Rattle.recipe_yaml.specs.declared.leaf_name.LeafName.TheVariants as leaf_names;
+ghost use Rattle.recipe_yaml.specs.declared.plans.LeafRecipe.TheVariants as recipes;
 
 use crate::book::{WrittenEntry, WrittenOption};
 use crate::fault::{RecipeFault, wrong};
@@ -149,7 +152,8 @@ fn unknown_place(taken: &[TakenOption], options: &[WrittenOption]) -> Option<Pla
 
 #[tactic(auto, unfolding(crate::specs::Leaves::is_refused))]
 fn is_refused(alloc: Global, taken: &[TakenOption], option: &WrittenOption) -> Mem<bool>
-    ensures { (paths : KeyPathsOf) → AreKeyPaths paths → IfOk result (λ is. is ≡ is_refused paths taken.now option.now) }
+    ensures { (paths : KeyPathsOf) → AreKeyPaths paths →
+        IfOk result (λ is. is ≡ is_refused paths taken.now option.now) }
 {
     match taken_as(taken, option.key.as_slice()) {
         None => Ok(false),
@@ -165,7 +169,8 @@ fn refused_place(
     taken: &[TakenOption],
     options: &[WrittenOption],
 ) -> Mem<Option<Place>>
-    ensures { (paths : KeyPathsOf) → AreKeyPaths paths → IfOk result (λ place. place ≡ refused_place paths taken.now options.now) }
+    ensures { (paths : KeyPathsOf) → AreKeyPaths paths →
+        IfOk result (λ place. place ≡ refused_place paths taken.now options.now) }
 {
     for option in options {
         if is_refused(alloc, taken, option)? {
@@ -182,7 +187,8 @@ fn options_fault(
     taken: &[TakenOption],
     entry: &WrittenEntry,
 ) -> Mem<Option<RecipeFault>>
-    ensures { (paths : KeyPathsOf) → AreKeyPaths paths → IfOk result (λ fault. fault ≡ options_fault paths taken.now entry.now) }
+    ensures { (paths : KeyPathsOf) → AreKeyPaths paths →
+        IfOk result (λ fault. fault ≡ options_fault paths taken.now entry.now) }
 {
     let options = entry.options.as_slice();
     if is_missing(taken, options) {
@@ -211,7 +217,8 @@ fn text_given(alloc: Global, options: &[WrittenOption], name: OptionName) -> Mem
 
 // The key path that an option's text spells. A text that spells none was refused before.
 fn path_given(alloc: Global, options: &[WrittenOption], name: OptionName) -> Mem<KeyPath>
-    ensures { (paths : KeyPathsOf) → AreKeyPaths paths → IfOk result (λ path. path ≡ path_given paths name options.now) }
+    ensures { (paths : KeyPathsOf) → AreKeyPaths paths →
+        IfOk result (λ path. path ≡ path_given paths name options.now) }
 {
     let text = given(options, name).unwrap_or(&[]);
     match key_path_of(alloc, text)? {
@@ -230,11 +237,13 @@ fn file_given(alloc: Global, options: &[WrittenOption], name: OptionName) -> Mem
     }
 }
 
+#[tactic(auto, unfolding(crate::specs::Leaves::with_options))]
 fn properties_change_property_key(
     alloc: Global,
     options: &[WrittenOption],
 ) -> Mem<PropertiesChangePropertyKey>
-    ensures { IfOk result (λ made. made ≡ record { old_property_key = text_given name.OldPropertyKey options.now; new_property_key = text_given name.NewPropertyKey options.now }) }
+    ensures { (paths : KeyPathsOf) → IfOk result (λ made.
+        recipes.PropertiesChangePropertyKey made ≡ with_options paths leaf_names.PropertiesChangePropertyKey options.now) }
 {
     Ok(PropertiesChangePropertyKey {
         old_property_key: text_given(alloc, options, OptionName::OldPropertyKey)?,
@@ -242,8 +251,10 @@ fn properties_change_property_key(
     })
 }
 
+#[tactic(auto, unfolding(crate::specs::Leaves::with_options))]
 fn change_property_value(alloc: Global, options: &[WrittenOption]) -> Mem<ChangePropertyValue>
-    ensures { IfOk result (λ made. made ≡ record { property_key = text_given name.PropertyKey options.now; new_value = text_given name.NewValue options.now; old_value = given name.OldValue options.now }) }
+    ensures { (paths : KeyPathsOf) → IfOk result (λ made.
+        recipes.ChangePropertyValue made ≡ with_options paths leaf_names.ChangePropertyValue options.now) }
 {
     let old_value = match given(options, OptionName::OldValue) {
         Some(text) => Some(Text::from_slice(alloc, text)?),
@@ -256,16 +267,20 @@ fn change_property_value(alloc: Global, options: &[WrittenOption]) -> Mem<Change
     })
 }
 
+#[tactic(auto, unfolding(crate::specs::Leaves::with_options))]
 fn delete_property(alloc: Global, options: &[WrittenOption]) -> Mem<DeleteProperty>
-    ensures { IfOk result (λ made. made ≡ record { property_key = text_given name.PropertyKey options.now }) }
+    ensures { (paths : KeyPathsOf) → IfOk result (λ made.
+        recipes.DeleteProperty made ≡ with_options paths leaf_names.DeleteProperty options.now) }
 {
     Ok(DeleteProperty {
         property_key: text_given(alloc, options, OptionName::PropertyKey)?,
     })
 }
 
+#[tactic(auto, unfolding(crate::specs::Leaves::with_options))]
 fn add_property(alloc: Global, options: &[WrittenOption]) -> Mem<AddProperty>
-    ensures { IfOk result (λ made. made ≡ record { property = text_given name.Property options.now; value = text_given name.Value options.now }) }
+    ensures { (paths : KeyPathsOf) → IfOk result (λ made.
+        recipes.AddProperty made ≡ with_options paths leaf_names.AddProperty options.now) }
 {
     Ok(AddProperty {
         property: text_given(alloc, options, OptionName::Property)?,
@@ -273,8 +288,10 @@ fn add_property(alloc: Global, options: &[WrittenOption]) -> Mem<AddProperty>
     })
 }
 
+#[tactic(auto, unfolding(crate::specs::Leaves::with_options))]
 fn change_key(alloc: Global, options: &[WrittenOption]) -> Mem<ChangeKey>
-    ensures { (paths : KeyPathsOf) → AreKeyPaths paths → IfOk result (λ made. made ≡ record { old_key_path = path_given paths name.OldKeyPath options.now; new_key = text_given name.NewKey options.now }) }
+    ensures { (paths : KeyPathsOf) → AreKeyPaths paths → IfOk result (λ made.
+        recipes.ChangeKey made ≡ with_options paths leaf_names.ChangeKey options.now) }
 {
     Ok(ChangeKey {
         old_key_path: path_given(alloc, options, OptionName::OldKeyPath)?,
@@ -282,8 +299,10 @@ fn change_key(alloc: Global, options: &[WrittenOption]) -> Mem<ChangeKey>
     })
 }
 
+#[tactic(auto, unfolding(crate::specs::Leaves::with_options))]
 fn change_value(alloc: Global, options: &[WrittenOption]) -> Mem<ChangeValue>
-    ensures { (paths : KeyPathsOf) → AreKeyPaths paths → IfOk result (λ made. made ≡ record { key_path = path_given paths name.KeyPath options.now; value = text_given name.Value options.now }) }
+    ensures { (paths : KeyPathsOf) → AreKeyPaths paths → IfOk result (λ made.
+        recipes.ChangeValue made ≡ with_options paths leaf_names.ChangeValue options.now) }
 {
     Ok(ChangeValue {
         key_path: path_given(alloc, options, OptionName::KeyPath)?,
@@ -291,16 +310,20 @@ fn change_value(alloc: Global, options: &[WrittenOption]) -> Mem<ChangeValue>
     })
 }
 
+#[tactic(auto, unfolding(crate::specs::Leaves::with_options))]
 fn delete_key(alloc: Global, options: &[WrittenOption]) -> Mem<DeleteKey>
-    ensures { (paths : KeyPathsOf) → AreKeyPaths paths → IfOk result (λ made. made ≡ record { key_path = path_given paths name.KeyPath options.now }) }
+    ensures { (paths : KeyPathsOf) → AreKeyPaths paths → IfOk result (λ made.
+        recipes.DeleteKey made ≡ with_options paths leaf_names.DeleteKey options.now) }
 {
     Ok(DeleteKey {
         key_path: path_given(alloc, options, OptionName::KeyPath)?,
     })
 }
 
+#[tactic(auto, unfolding(crate::specs::Leaves::with_options))]
 fn yaml_change_property_key(alloc: Global, options: &[WrittenOption]) -> Mem<YamlChangePropertyKey>
-    ensures { IfOk result (λ made. made ≡ record { old_property_key = text_given name.OldPropertyKey options.now; new_property_key = text_given name.NewPropertyKey options.now }) }
+    ensures { (paths : KeyPathsOf) → IfOk result (λ made.
+        recipes.YamlChangePropertyKey made ≡ with_options paths leaf_names.YamlChangePropertyKey options.now) }
 {
     Ok(YamlChangePropertyKey {
         old_property_key: text_given(alloc, options, OptionName::OldPropertyKey)?,
@@ -308,24 +331,30 @@ fn yaml_change_property_key(alloc: Global, options: &[WrittenOption]) -> Mem<Yam
     })
 }
 
+#[tactic(auto, unfolding(crate::specs::Leaves::with_options))]
 fn find_source_files(alloc: Global, options: &[WrittenOption]) -> Mem<FindSourceFiles>
-    ensures { IfOk result (λ made. made ≡ record { file_pattern = text_given name.FilePattern options.now }) }
+    ensures { (paths : KeyPathsOf) → IfOk result (λ made.
+        recipes.FindSourceFiles made ≡ with_options paths leaf_names.FindSourceFiles options.now) }
 {
     Ok(FindSourceFiles {
         file_pattern: text_given(alloc, options, OptionName::FilePattern)?,
     })
 }
 
+#[tactic(auto, unfolding(crate::specs::Leaves::with_options))]
 fn delete_source_files(alloc: Global, options: &[WrittenOption]) -> Mem<DeleteSourceFiles>
-    ensures { IfOk result (λ made. made ≡ record { file_pattern = text_given name.FilePattern options.now }) }
+    ensures { (paths : KeyPathsOf) → IfOk result (λ made.
+        recipes.DeleteSourceFiles made ≡ with_options paths leaf_names.DeleteSourceFiles options.now) }
 {
     Ok(DeleteSourceFiles {
         file_pattern: text_given(alloc, options, OptionName::FilePattern)?,
     })
 }
 
+#[tactic(auto, unfolding(crate::specs::Leaves::with_options))]
 fn create_text_file(alloc: Global, options: &[WrittenOption]) -> Mem<CreateTextFile>
-    ensures { IfOk result (λ made. made ≡ record { file_contents = text_given name.FileContents options.now; relative_file_name = text_given name.RelativeFileName options.now }) }
+    ensures { (paths : KeyPathsOf) → IfOk result (λ made.
+        recipes.CreateTextFile made ≡ with_options paths leaf_names.CreateTextFile options.now) }
 {
     Ok(CreateTextFile {
         file_contents: text_given(alloc, options, OptionName::FileContents)?,
@@ -334,9 +363,9 @@ fn create_text_file(alloc: Global, options: &[WrittenOption]) -> Mem<CreateTextF
 }
 
 // A recipe with the options of an entry that has no fault.
-#[tactic(auto, unfolding(crate::specs::Leaves::with_options))]
 fn with_options(alloc: Global, leaf: LeafName, options: &[WrittenOption]) -> Mem<LeafRecipe>
-    ensures { (paths : KeyPathsOf) → AreKeyPaths paths → IfOk result (λ made. made ≡ with_options paths leaf options.now) }
+    ensures { (paths : KeyPathsOf) → AreKeyPaths paths →
+        IfOk result (λ made. made ≡ with_options paths leaf options.now) }
 {
     let recipe = match leaf {
         LeafName::PropertiesChangePropertyKey => {

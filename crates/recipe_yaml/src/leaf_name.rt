@@ -1,7 +1,8 @@
 // The recipes that do work themselves, by their names, and the options that each takes.
 ghost use Rattle.std.specs.Prelude.{◌≡◌};
 ghost use Rattle.std.specs.Str.{bytes_eq};
-ghost use Rattle.recipe_yaml.specs.LeafNames.{either_leaf, file_leaf, is_scanner, key_of, leaf_named, properties_leaf, taken_by, yaml_leaf};
+ghost use Rattle.recipe_yaml.specs.LeafNames.{file_leaf, is_scanner, key_of, leaf_named};
+ghost use Rattle.recipe_yaml.specs.LeafNames.{properties_leaf, taken_by, yaml_leaf};
 
 /// A recipe that does work itself, without its options.
 #[derive(Clone, Copy, Debug, PartialEq, Eq)]

@@ -83,12 +83,14 @@ fn plan_by(walked: Walked) -> Plan
     }
 }
 
-/// The plan of the recipe of this name: the leaf recipes that its lists lead to, in order, each with the preconditions of
-/// the recipes around it; or the first of the faults 4 to 10 on the way.
+/// The plan of the recipe of this name: the leaf recipes that its lists lead to, in order, each with the preconditions
+/// of the recipes around it; or the first of the faults 4 to 10 on the way.
 #[tactic(auto, using(crate::proofs::Planned::planned))]
 pub fn plan(alloc: Global, book: &RecipeBook, name: &[u8]) -> Result<Plan, RecipeFault>
-    ensures plan { (paths : KeyPathsOf) → AreKeyPaths paths → IfOk result (λ plan. plan_of paths book.now name.now ≡ Ok plan) }
-    ensures fault { (paths : KeyPathsOf) → AreKeyPaths paths → IfErr result (λ fault. fault ≢ RecipeFault.NoMemory → plan_of paths book.now name.now ≡ Err fault) }
+    ensures plan { (paths : KeyPathsOf) → AreKeyPaths paths →
+        IfOk result (λ plan. plan_of paths book.now name.now ≡ Ok plan) }
+    ensures fault { (paths : KeyPathsOf) → AreKeyPaths paths → IfErr result
+        (λ fault. fault ≢ RecipeFault.NoMemory → plan_of paths book.now name.now ≡ Err fault) }
 {
     let recipes = book.recipes.as_slice();
     let Some(number) = place_of(recipes, name) else {

@@ -1,6 +1,6 @@
 // The walk through the lists of a recipe.
 ghost use Rattle.std.specs.Prelude.{◌≡◌, ◌<◌, ◌≤◌, nat_le, ◌&&◌, ◌||◌, ◌-◌, ◌==◌, ◌++◌, ◌∷◌, []};
-ghost use Rattle.std.specs.Prelude.{OnOk, length, Some, None};
+ghost use Rattle.std.specs.Prelude.{OnOk, length, false, Some, None};
 ghost use Rattle.std.specs.List.{list_any};
 ghost use Rattle.recipe_yaml.specs.KeyPathTexts.{KeyPathsOf, AreKeyPaths};
 ghost use Rattle.recipe_yaml.specs.Leading.{leads, column};
@@ -204,7 +204,13 @@ fn walk_entry(
         return leaf_entry(alloc, is_condition, above, listed, walked);
     };
     if let Some(fault) = recipe_fault(
-        book, leading, around, is_condition, number, listed, walked.met,
+        book,
+        leading,
+        around,
+        is_condition,
+        number,
+        listed,
+        walked.met,
     ) {
         return Err(fault);
     }
@@ -269,8 +275,8 @@ fn walk_conditions(
 ) -> Result<Vec<u32>, RecipeFault>
     requires few { walked.old.met ≤ MOST_ENTRIES }
     requires leading { leading.now ≡ column book.now (length book.now) }
-    ensures gone { (paths : KeyPathsOf) → AreKeyPaths paths →
-        IsListed (conditions (entry book.now paths levels around.now) above.now entries.now walked.old) result walked.new }
+    ensures gone { (paths : KeyPathsOf) → AreKeyPaths paths → IsListed
+        (conditions (entry book.now paths levels around.now) above.now entries.now walked.old) result walked.new }
     ensures few { OnOk result (walked.new.met ≤ MOST_ENTRIES) }
 {
     let mut positions = Vec::from_slice(alloc, above)?;
@@ -301,7 +307,15 @@ fn walk_condition(
 {
     let outer = open(alloc, walked);
     walk_entry(
-        alloc, book, leading, levels, around, true, &[], listed, walked,
+        alloc,
+        book,
+        leading,
+        levels,
+        around,
+        true,
+        &[],
+        listed,
+        walked,
     )?;
     close(walked, outer)?;
     Ok(())
@@ -322,8 +336,8 @@ fn walk_list(
 ) -> Result<(), RecipeFault>
     requires few { walked.old.met ≤ MOST_ENTRIES }
     requires leading { leading.now ≡ column book.now (length book.now) }
-    ensures gone { (paths : KeyPathsOf) → AreKeyPaths paths →
-        IsGone (each (entry book.now paths levels around.now false above.now) entries.now walked.old) result walked.new }
+    ensures gone { (paths : KeyPathsOf) → AreKeyPaths paths → IsGone
+        (each (entry book.now paths levels around.now false above.now) entries.now walked.old) result walked.new }
     ensures few { OnOk result (walked.new.met ≤ MOST_ENTRIES) }
 {
     for listed in entries {

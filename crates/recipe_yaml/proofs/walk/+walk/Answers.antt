@@ -1,7 +1,7 @@
 use Rattle.std.proofs.Common.{rules, ◌≡◌, length, get_or, ap, sym, subst, ◌∙◌, refl, arith, false}
 use Rattle.std.specs.Prelude.{Ok, Err}
 use Rattle.recipe_yaml.specs.Walks.{entry, conditions, each, IsGone}
-use Rattle.recipe_yaml.proofs.Gone.{condition_goes, condition_fault, conditions_start, conditions_more, conditions_fault, conditions_end, each_more, each_fault, each_end, recipe_fault_in_conditions, recipe_goes}
+use Rattle.recipe_yaml.proofs.Gone.{condition_goes, condition_fault, conditions_start, conditions_more, conditions_fault, conditions_end, each_more, each_fault, each_end, recipe_fault_in_conditions, recipe_fault_in_list, recipe_goes}
 use Rattle.recipe_yaml.proofs.walk.+walk.Goals as goal
 
 -- ---- a precondition
@@ -72,3 +72,16 @@ walk_recipe-returns-in_err-positions-clause-gone m c paths are =
     let walk = entry c.args.book.now paths c.args.levels c.args.around.now in
     let gone = recipe_fault_in_conditions walk c.args.above.now c.args.written.now c.args.walked.now c.note.new.walked c.as_slice-conditions.result.now c.in_err-positions.field-0.0 c.note.ensures c.as_slice-conditions.ensures (c.in_err-positions.ensures.gone paths are) in
     search (rules, gone)
+
+pub walk_recipe-returns-in_err-walk_list-clause-gone : goal.walk_recipe-returns-in_err-walk_list-clause-gone
+walk_recipe-returns-in_err-walk_list-clause-gone m c paths are =
+    let walk = entry c.args.book.now paths c.args.levels c.args.around.now in
+    let gone = recipe_fault_in_list walk c.args.above.now c.args.written.now c.args.walked.now c.note.new.walked c.as_slice-conditions.result.now c.walk_conditions.new.walked c.in_ok-positions.positions.items c.deref.result.now c.as_slice-list.result.now c.in_err-walk_list.field-0.0
+        c.note.ensures c.as_slice-conditions.ensures (c.in_ok-positions.ensures.gone paths are) c.as_slice-list.ensures c.deref.ensures.value (c.in_err-walk_list.ensures.gone paths are) in
+    search (rules, gone)
+
+pub walk_recipe-returns-clause-gone : goal.walk_recipe-returns-clause-gone
+walk_recipe-returns-clause-gone m c paths are =
+    let walk = entry c.args.book.now paths c.args.levels c.args.around.now in
+    recipe_goes walk c.args.above.now c.args.written.now c.args.walked.now c.note.new.walked c.as_slice-conditions.result.now c.walk_conditions.new.walked c.in_ok-positions.positions.items c.deref.result.now c.as_slice-list.result.now (Ok c.walk_list.new.walked)
+    c.note.ensures c.as_slice-conditions.ensures (c.in_ok-positions.ensures.gone paths are) c.as_slice-list.ensures c.deref.ensures.value (c.in_ok-walk_list.ensures.gone paths are)
