@@ -104,7 +104,8 @@ with_options paths leaf.ChangePropertyValue os = recipe.ChangePropertyValue (rec
   old_value = given name.OldValue os;
 })
 with_options paths leaf.DeleteProperty os = recipe.DeleteProperty (record {
-    property_key = text_given name.PropertyKey os })
+  property_key = text_given name.PropertyKey os;
+})
 with_options paths leaf.AddProperty os = recipe.AddProperty (record {
   property = text_given name.Property os;
   value = text_given name.Value os;
@@ -118,15 +119,18 @@ with_options paths leaf.ChangeValue os = recipe.ChangeValue (record {
   value = text_given name.Value os;
 })
 with_options paths leaf.DeleteKey os = recipe.DeleteKey (record {
-    key_path = path_given paths name.KeyPath os })
+  key_path = path_given paths name.KeyPath os;
+})
 with_options paths leaf.YamlChangePropertyKey os = recipe.YamlChangePropertyKey (record {
   old_property_key = text_given name.OldPropertyKey os;
   new_property_key = text_given name.NewPropertyKey os;
 })
 with_options paths leaf.FindSourceFiles os = recipe.FindSourceFiles (record {
-    file_pattern = text_given name.FilePattern os })
+  file_pattern = text_given name.FilePattern os;
+})
 with_options paths leaf.DeleteSourceFiles os = recipe.DeleteSourceFiles (record {
-    file_pattern = text_given name.FilePattern os })
+  file_pattern = text_given name.FilePattern os;
+})
 with_options paths leaf.CreateTextFile os = recipe.CreateTextFile (record {
   file_contents = text_given name.FileContents os;
   relative_file_name = text_given name.RelativeFileName os;

@@ -77,7 +77,7 @@ pub walk_recipe-returns-in_err-walk_list-clause-gone : goal.walk_recipe-returns-
 walk_recipe-returns-in_err-walk_list-clause-gone m c paths are =
     let walk = entry c.args.book.now paths c.args.levels c.args.around.now in
     let gone = recipe_fault_in_list walk c.args.above.now c.args.written.now c.args.walked.now c.note.new.walked c.as_slice-conditions.result.now c.walk_conditions.new.walked c.in_ok-positions.positions.items c.deref.result.now c.as_slice-list.result.now c.in_err-walk_list.field-0.0
-        c.note.ensures c.as_slice-conditions.ensures (c.in_ok-positions.ensures.gone paths are) c.as_slice-list.ensures c.deref.ensures.value (c.in_err-walk_list.ensures.gone paths are) in
+    c.note.ensures c.as_slice-conditions.ensures (c.in_ok-positions.ensures.gone paths are) c.as_slice-list.ensures c.deref.ensures.value (c.in_err-walk_list.ensures.gone paths are) in
     search (rules, gone)
 
 pub walk_recipe-returns-clause-gone : goal.walk_recipe-returns-clause-gone
