@@ -1,5 +1,5 @@
 // Why a recipe file or a plan is refused.
-ghost use Rattle.std.specs.Prelude.{◌≡◌};
+ghost use Rattle.std.specs.Prelude.{◌≡◌, Some};
 ghost use Rattle.recipe_yaml.specs.declared.fault.RecipeFault.TheVariants as fault;
 
 use rw_base::{NoMemory, Place};
@@ -34,5 +34,15 @@ impl<T: Drop> From<AllocFailed<T>> for RecipeFault {
 
     fn from(_: AllocFailed<T>) -> Self {
         RecipeFault::NoMemory
+    }
+}
+
+/// A fault at a place.
+pub(crate) fn wrong(number: u8, place: Place) -> RecipeFault
+    ensures { result ≡ fault.Wrong number (Some place) }
+{
+    RecipeFault::Wrong {
+        number,
+        place: Some(place),
     }
 }

@@ -3,8 +3,15 @@
 
 mod book;
 mod fault;
-mod plan;
+mod leading;
+mod leaf;
+mod leaf_name;
+mod planning;
+mod plans;
+mod walk;
 
 pub use book::{RecipeBook, Written, WrittenEntry, WrittenOption};
 pub use fault::RecipeFault;
-pub use plan::{Condition, LeafRecipe, Plan, PlannedLeaf};
+pub use leading::any_number_leads;
+pub use planning::plan;
+pub use plans::{Condition, LeafRecipe, Plan, PlannedLeaf};
