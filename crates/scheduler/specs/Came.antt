@@ -32,5 +32,6 @@ phase_of read plan Edit = edit_step read plan
 unfoldable pub CameRun : Result Ended RunFault → State → List Event → Run → State → List Event → Type 0
 CameRun (Ok ended) files events run to told =
     (reached files events run.stages ≡ end to told)
-    × ((run.cycles ≡ ended.cycles) × (run.still_changing ≡ ended.still_changing))
+    × (run.cycles ≡ ended.cycles)
+    × (run.still_changing ≡ ended.still_changing)
 CameRun (Err fault) files events run to told = Came (Err fault) files events run.stages to told

@@ -15,11 +15,20 @@
 #![tactic(auto)]
 
 mod cycling;
+mod decide;
+mod dispatch;
 mod event;
 mod fate;
 mod fault;
+mod generating;
+mod next;
 mod running;
+mod same;
+mod scanning;
+mod settle;
+mod stepping;
 
 pub use event::{DropCause, Event};
 pub use fault::{MOST_HELD, RunFault};
 pub use running::{Outcome, run_plan};
+pub use stepping::{StepReport, step};

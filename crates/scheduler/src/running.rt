@@ -1,13 +1,18 @@
 // A run: cycles until nothing changes.
-ghost use Rattle.std.specs.Prelude.{◌≡◌, ℕ, [], IfOk, Err};
+ghost use Rattle.std.specs.Prelude.{◌≡◌, ◌&&◌, ℕ, [], not, IfOk, Err};
 ghost use Rattle.kept_files.specs.Readings.{AreReadings, Reads};
-ghost use Rattle.scheduler.specs.Came.{Stands};
-ghost use Rattle.scheduler.specs.Runs.{end, reached, run, too_much};
+ghost use Rattle.scheduler.specs.Came.{CameRun, Stands};
+ghost use Rattle.scheduler.specs.Runs.{end, reached, run, same_files, too_much};
 
+use crate::cycling::cycle;
 use crate::event::Event;
 use crate::fault::RunFault;
+use crate::generating::again;
+use crate::same::same_files;
 use j_repair::Attributed;
+use kept_files::KeptFile;
 use recipe_yaml::Plan;
+use rw_base::{Mem, Shared};
 use rw_host::Steps;
 use sqlite_items::Items;
 use std::alloc::Global;
@@ -20,6 +25,49 @@ pub struct Ended {
     pub still_changing: bool,
 }
 
+// The files of a state, each with one owner more.
+fn files_of(alloc: Global, kept: &Attributed) -> Mem<Vec<Shared<KeptFile>>>
+    ensures { IfOk result (λ files. files.items ≡ kept.now) }
+{
+    let files = again(alloc, kept.files())?;
+    Ok(files)
+}
+
+// Whether a further cycle comes after one that began with these files.
+fn goes_on(plan: &Plan, before: &Vec<Shared<KeptFile>>, kept: &Attributed) -> bool
+    ensures { result ≡ (plan.now.again && not (same_files before.now.items kept.now)) }
+{
+    plan.again && !same_files(before.as_slice(), kept.files())
+}
+
+#[tactic(auto, using(crate::proofs::RunsOn::runs_by))]
+fn run_cycles<L: Ledger>(
+    alloc: Global,
+    kept: &mut Attributed,
+    events: &mut Items<Event>,
+    plan: &Plan,
+    cycles: u32,
+    steps: &mut Steps<L>,
+) -> Result<Ended, RunFault>
+    ensures { (read : Reads) → AreReadings read
+        → CameRun result kept.old events.old (run read plan.now cycles kept.old) kept.new events.new }
+{
+    for done in 0..cycles {
+        let before = files_of(alloc, kept)?;
+        cycle(alloc, kept, events, plan, steps)?;
+        if !goes_on(plan, &before, kept) {
+            return Ok(Ended {
+                cycles: done + 1,
+                still_changing: false,
+            });
+        }
+    }
+    Ok(Ended {
+        cycles,
+        still_changing: true,
+    })
+}
+
 /// What a run did.
 #[derive(Debug, Drop)]
 pub struct Outcome {
@@ -28,7 +76,7 @@ pub struct Outcome {
     pub still_changing: bool,
 }
 
-#[tactic(auto, using(crate::proofs::Onward::stands_first))]
+#[tactic(auto, using(crate::proofs::RunsOn::outcome_by))]
 /// Runs a plan on a state, so many cycles at most.
 pub fn run_plan<L: Ledger>(
     alloc: Global,
@@ -53,10 +101,11 @@ pub fn run_plan<L: Ledger>(
     ensures memory { (read : Reads) → AreReadings read → result ≡ Err RunFault.NoMemory
         → Stands kept.new kept.old (run read plan.now cycles kept.old).stages }
 {
-    let _ = alloc;
-    let _ = kept.files();
-    let _ = plan.again;
-    let _ = cycles;
-    let _ = steps;
-    Err(RunFault::NoMemory)
+    let mut events = Items::new(alloc);
+    let ended = run_cycles(alloc, kept, &mut events, plan, cycles, steps)?;
+    Ok(Outcome {
+        events,
+        cycles: ended.cycles,
+        still_changing: ended.still_changing,
+    })
 }
