@@ -1,0 +1,11 @@
+pub mod Decided
+pub mod ByRecipe
+pub mod Settling
+pub mod After
+pub mod Beside
+pub mod SameFiles
+pub mod Whole
+pub mod Scans
+pub mod Generated
+pub mod Onward
+pub mod RunsOn

@@ -1,0 +1,6 @@
+pub mod Edits
+pub mod Holds
+pub mod Fates
+pub mod Steps
+pub mod Runs
+pub mod Came

@@ -1,0 +1,34 @@
+//! Steps, cycles and runs of a plan over the kept state of a repository.
+//!
+//! ```text
+//! let mut kept = attribute_all(alloc, readers, files, &mut steps)?;
+//! let outcome = run_plan(alloc, &mut kept, &plan, cycles, &mut steps)?;      // kept is the last state now
+//! ```
+//!
+//! The promise. A step takes each file on which its leaf runs, by the state before the step alone; a cycle scans, then
+//! each leaf generates, then each edits; a run goes on while a cycle changes something, the plan causes another cycle
+//! and the maximum allows it. `run_plan` ensures that it comes to the last state and the events of that run (`done`,
+//! `cycles`, `still`), or stands at the state before the first that holds too much (`too_much`).
+//!
+//! The definitions in specs/: `Edits` (what each leaf recipe does), `Holds` (preconditions), `Fates` and `Steps` (an edit
+//! step), `Runs` (cycles, runs, and what is reached). `Came` says what a part of a run came to.
+#![tactic(auto)]
+
+mod cycling;
+mod decide;
+mod dispatch;
+mod event;
+mod fate;
+mod fault;
+mod generating;
+mod next;
+mod running;
+mod same;
+mod scanning;
+mod settle;
+mod stepping;
+
+pub use event::{DropCause, Event};
+pub use fault::{MOST_HELD, RunFault};
+pub use running::{Outcome, run_plan};
+pub use stepping::{StepReport, step};
