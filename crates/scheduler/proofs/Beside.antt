@@ -4,8 +4,8 @@ use Rattle.std.proofs.lemmas.List.{drop_all}
 use Rattle.kept_files.specs.Readings.{Reads}
 use Rattle.kept_files.specs.States.{State}
 use Rattle.kept_files.specs.declared.file.KeptFile.{KeptFile}
-use Rattle.recipe_yaml.specs.declared.plan.Plan.{Plan}
-use Rattle.recipe_yaml.specs.declared.plan.PlannedLeaf.{PlannedLeaf}
+use Rattle.recipe_yaml.specs.declared.plans.Plan.{Plan}
+use Rattle.recipe_yaml.specs.declared.plans.PlannedLeaf.{PlannedLeaf}
 use Rattle.scheduler.specs.declared.fate.Fate.{Fate}
 use Rattle.scheduler.specs.Fates.{fate_at, fates_from}
 use Rattle.scheduler.specs.Steps.{beside, IsFateKept, AreFatesKept}

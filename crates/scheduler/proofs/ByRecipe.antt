@@ -18,8 +18,8 @@ use Rattle.kept_files.specs.States.{State, file_at}
 use Rattle.conf_recipes.specs.PropertiesRecipes.{properties_key_changed, property_value_changed, property_deleted, property_added}
 use Rattle.conf_recipes.specs.YamlRecipes.{key_changed, value_changed, key_deleted, yaml_property_key_changed}
 use Rattle.conf_recipes.specs.FileRecipes.{file_found, file_deleted, text_files}
-use Rattle.recipe_yaml.specs.declared.plan.LeafRecipe.{LeafRecipe}
-use Rattle.recipe_yaml.specs.declared.plan.LeafRecipe.TheVariants as leaf
+use Rattle.recipe_yaml.specs.declared.plans.LeafRecipe.{LeafRecipe}
+use Rattle.recipe_yaml.specs.declared.plans.LeafRecipe.TheVariants as leaf
 use Rattle.scheduler.specs.Edits.{edits, generated}
 
 module _ (l : LeafRecipe) (files : State) (n : ℕ) (value : List (List ℕ)) (e : FileEdit) where

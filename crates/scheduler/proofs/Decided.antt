@@ -16,9 +16,9 @@ use Rattle.kept_files.specs.FileEdits.{FitTree, FitsFile}
 use Rattle.kept_files.specs.Readings.{Reads, IsReading, EndsWith}
 use Rattle.kept_files.specs.States.{State, IsKept, EndsAt, file_at, tree_in}
 use Rattle.kept_files.specs.declared.file.KeptFile.{KeptFile}
-use Rattle.recipe_yaml.specs.declared.plan.Plan.{Plan}
-use Rattle.recipe_yaml.specs.declared.plan.PlannedLeaf.{PlannedLeaf}
-use Rattle.recipe_yaml.specs.declared.plan.Condition.{Condition}
+use Rattle.recipe_yaml.specs.declared.plans.Plan.{Plan}
+use Rattle.recipe_yaml.specs.declared.plans.PlannedLeaf.{PlannedLeaf}
+use Rattle.recipe_yaml.specs.declared.plans.Condition.{Condition}
 use Rattle.scheduler.specs.declared.fate.Fate.{Fate}
 use Rattle.scheduler.specs.declared.fate.Fate.TheVariants.{Stays, Goes, Lost, Taken, Becomes}
 use Rattle.scheduler.specs.Edits.{edits}

@@ -6,7 +6,7 @@ use Rattle.kept_files.specs.Readings.{Reads}
 use Rattle.kept_files.specs.States.{State, has_path, put_file}
 use Rattle.kept_files.specs.declared.file.KeptFile.{KeptFile}
 use Rattle.scheduler.specs.declared.event.Event.{Event}
-use Rattle.recipe_yaml.specs.declared.plan.PlannedLeaf.{PlannedLeaf}
+use Rattle.recipe_yaml.specs.declared.plans.PlannedLeaf.{PlannedLeaf}
 use Rattle.j_repair.specs.Changes.{file_of}
 use Rattle.scheduler.specs.Edits.{generated}
 use Rattle.scheduler.specs.Runs.{Stage, refusal_of, with_file, with_files, generation}

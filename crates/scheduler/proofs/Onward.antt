@@ -6,8 +6,8 @@ use Rattle.std.proofs.lemmas.List.{drop_all, get_or_default}
 use Rattle.kept_files.specs.Readings.{Reads}
 use Rattle.kept_files.specs.States.{State, held_bytes}
 use Rattle.scheduler.specs.declared.event.Event.{Event}
-use Rattle.recipe_yaml.specs.declared.plan.Plan.{Plan}
-use Rattle.recipe_yaml.specs.declared.plan.PlannedLeaf.{PlannedLeaf}
+use Rattle.recipe_yaml.specs.declared.plans.Plan.{Plan}
+use Rattle.recipe_yaml.specs.declared.plans.PlannedLeaf.{PlannedLeaf}
 use Rattle.kept_files.specs.declared.scan_value.ScanValue.{ScanValue}
 use Rattle.scheduler.specs.declared.fault.RunFault.{RunFault}
 use Rattle.scheduler.specs.declared.fault.RunFault.TheVariants.{TooMuch, NoMemory}

@@ -4,7 +4,7 @@ use Rattle.std.specs.Prelude.{Result, Ok, Err, not, ◌&&◌, if◌then◌else�
 use Rattle.kept_files.specs.Readings.{Reads}
 use Rattle.kept_files.specs.States.{State}
 use Rattle.scheduler.specs.declared.event.Event.{Event}
-use Rattle.recipe_yaml.specs.declared.plan.Plan.{Plan}
+use Rattle.recipe_yaml.specs.declared.plans.Plan.{Plan}
 use Rattle.scheduler.specs.declared.fault.RunFault.{RunFault}
 use Rattle.scheduler.specs.declared.fault.RunFault.TheVariants.{TooMuch, NoMemory}
 use Rattle.scheduler.specs.Runs.{Stage, Run, reached, end, too_much, last_of, cycle, run, ends_with, same_files}

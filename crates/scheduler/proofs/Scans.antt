@@ -2,8 +2,8 @@
 use Rattle.std.proofs.Common.{◌≡◌, ℕ, ◌+◌, ◌<◌, ◌≤◌, List, [], ◌∷◌, ◌++◌, length, take, drop, get_or, map, refl, sym, ap, ◌∙◌, add-one, drop-cons, append_assoc, arith}
 use Rattle.std.proofs.lemmas.List.{drop_all, append-nil, take_all}
 use Rattle.kept_files.specs.States.{State, no_file}
-use Rattle.recipe_yaml.specs.declared.plan.PlannedLeaf.{PlannedLeaf}
-use Rattle.recipe_yaml.specs.declared.plan.LeafRecipe.{LeafRecipe}
+use Rattle.recipe_yaml.specs.declared.plans.PlannedLeaf.{PlannedLeaf}
+use Rattle.recipe_yaml.specs.declared.plans.LeafRecipe.{LeafRecipe}
 use Rattle.kept_files.specs.declared.scan_value.ScanValue.{ScanValue}
 use Rattle.scheduler.specs.Edits.{scan}
 use Rattle.scheduler.proofs.Decided.{cut}

@@ -7,8 +7,8 @@ use Rattle.kept_files.specs.Readings.{Reads}
 use Rattle.kept_files.specs.States.{State, AreKept, held_bytes}
 use Rattle.scheduler.specs.declared.fate.Fate.{Fate}
 use Rattle.scheduler.specs.declared.event.Event.{Event}
-use Rattle.recipe_yaml.specs.declared.plan.Plan.{Plan}
-use Rattle.recipe_yaml.specs.declared.plan.PlannedLeaf.{PlannedLeaf}
+use Rattle.recipe_yaml.specs.declared.plans.Plan.{Plan}
+use Rattle.recipe_yaml.specs.declared.plans.PlannedLeaf.{PlannedLeaf}
 use Rattle.scheduler.specs.Fates.{fates_from, settled}
 use Rattle.scheduler.specs.Steps.{step_fates, next, events_of, stepped, step_events, AreFatesKept, IsOver, leaf_at, no_leaf}
 use Rattle.scheduler.specs.Runs.{Stage, edit_step}

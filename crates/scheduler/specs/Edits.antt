@@ -8,8 +8,8 @@ use Rattle.conf_recipes.specs.PropertiesRecipes.{properties_key_changed, propert
 use Rattle.conf_recipes.specs.PropertiesRecipes.{property_deleted, property_added}
 use Rattle.conf_recipes.specs.YamlRecipes.{key_changed, value_changed, key_deleted, yaml_property_key_changed}
 use Rattle.conf_recipes.specs.FileRecipes.{file_found, file_deleted, text_files}
-use Rattle.recipe_yaml.specs.declared.plan.LeafRecipe.{LeafRecipe}
-use Rattle.recipe_yaml.specs.declared.plan.LeafRecipe.TheVariants as leaf
+use Rattle.recipe_yaml.specs.declared.plans.LeafRecipe.{LeafRecipe}
+use Rattle.recipe_yaml.specs.declared.plans.LeafRecipe.TheVariants as leaf
 
 -- what a leaf recipe does to the file of a number, by the state and by what its scanner found
 unfoldable pub edits : LeafRecipe → State → ℕ → List (List ℕ) → FileEdit

@@ -12,8 +12,8 @@ use Rattle.rw_host.specs.declared.file.FileEdit.TheVariants as edit
 use Rattle.kept_files.specs.Readings.{Reads}
 use Rattle.kept_files.specs.States.{State, file_at, has_path, tree_in}
 use Rattle.kept_files.specs.declared.file.KeptFile.{KeptFile}
-use Rattle.recipe_yaml.specs.declared.plan.Plan.{Plan}
-use Rattle.recipe_yaml.specs.declared.plan.PlannedLeaf.{PlannedLeaf}
+use Rattle.recipe_yaml.specs.declared.plans.Plan.{Plan}
+use Rattle.recipe_yaml.specs.declared.plans.PlannedLeaf.{PlannedLeaf}
 use Rattle.scheduler.specs.declared.fate.Fate.{Fate}
 use Rattle.scheduler.specs.declared.fate.Fate.TheVariants.{Stays, Goes, Lost, Taken, Becomes}
 use Rattle.scheduler.specs.Edits.{edits}

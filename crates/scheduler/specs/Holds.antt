@@ -4,9 +4,9 @@ use Rattle.std.specs.List.{list_any, list_all}
 use Rattle.rw_host.specs.declared.file.FileEdit.{FileEdit}
 use Rattle.rw_host.specs.declared.file.FileEdit.TheVariants as edit
 use Rattle.kept_files.specs.States.{State}
-use Rattle.recipe_yaml.specs.declared.plan.PlannedLeaf.{PlannedLeaf}
-use Rattle.recipe_yaml.specs.declared.plan.Condition.{Condition}
-use Rattle.recipe_yaml.specs.declared.plan.Plan.{Plan}
+use Rattle.recipe_yaml.specs.declared.plans.PlannedLeaf.{PlannedLeaf}
+use Rattle.recipe_yaml.specs.declared.plans.Condition.{Condition}
+use Rattle.recipe_yaml.specs.declared.plans.Plan.{Plan}
 use Rattle.scheduler.specs.Edits.{edits}
 
 -- whether a file gets an edit: all but Keep is one

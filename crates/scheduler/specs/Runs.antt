@@ -9,9 +9,9 @@ use Rattle.kept_files.specs.Readings.{Reads}
 use Rattle.kept_files.specs.States.{State, has_path, put_file, held_bytes}
 use Rattle.kept_files.specs.declared.file.KeptFile.{KeptFile}
 use Rattle.kept_files.specs.declared.scan_value.ScanValue.{ScanValue}
-use Rattle.recipe_yaml.specs.declared.plan.Plan.{Plan}
-use Rattle.recipe_yaml.specs.declared.plan.PlannedLeaf.{PlannedLeaf}
-use Rattle.recipe_yaml.specs.declared.plan.LeafRecipe.{LeafRecipe}
+use Rattle.recipe_yaml.specs.declared.plans.Plan.{Plan}
+use Rattle.recipe_yaml.specs.declared.plans.PlannedLeaf.{PlannedLeaf}
+use Rattle.recipe_yaml.specs.declared.plans.LeafRecipe.{LeafRecipe}
 use Rattle.j_repair.specs.Changes.{file_of}
 use Rattle.scheduler.specs.declared.event.Event.{Event}
 use Rattle.scheduler.specs.declared.event.Event.TheVariants as event

@@ -5,9 +5,9 @@ use Rattle.rw_base.specs.declared.place.Place.{Place}
 use Rattle.kept_files.specs.Readings.{Reads}
 use Rattle.kept_files.specs.States.{State, IsKept, put_file, held_bytes}
 use Rattle.kept_files.specs.declared.file.KeptFile.{KeptFile}
-use Rattle.recipe_yaml.specs.declared.plan.Plan.{Plan}
-use Rattle.recipe_yaml.specs.declared.plan.PlannedLeaf.{PlannedLeaf}
-use Rattle.recipe_yaml.specs.declared.plan.LeafRecipe.TheVariants as leaf
+use Rattle.recipe_yaml.specs.declared.plans.Plan.{Plan}
+use Rattle.recipe_yaml.specs.declared.plans.PlannedLeaf.{PlannedLeaf}
+use Rattle.recipe_yaml.specs.declared.plans.LeafRecipe.TheVariants as leaf
 use Rattle.scheduler.specs.declared.fate.Fate.{Fate}
 use Rattle.scheduler.specs.declared.fate.Fate.TheVariants.{Stays, Goes, Lost, Taken, Becomes}
 use Rattle.scheduler.specs.declared.event.DropCause.TheVariants as cause
