@@ -1,0 +1,5 @@
+pub mod Names
+pub mod Checked
+pub mod Nodes
+pub mod WrittenEntries
+pub mod Books
