@@ -63,18 +63,22 @@ is_taken before name = is_known name || list_any (λ w. bytes_eq w.name name) be
 
 module _ (bytes : List ℕ) (t : Arena) where
   -- fault 3, at the name
+  unfoldable pub free_name : List Written → Slot → List ℕ → Checked (List ℕ)
+  free_name before s name =
+      if is_taken before name then Err (Wrong 3 (Some (leaf_place bytes t (value_leaf bytes t s)))) else Ok name
+
   unfoldable pub name_at : List Written → Slot → Checked (List ℕ)
-  name_at before s = do
-    name ← text_at bytes t s
-    if is_taken before name then Err (Wrong 3 (Some (leaf_place bytes t (value_leaf bytes t s)))) else Ok name
+  name_at before s = text_at bytes t s >>= free_name before s
 
   -- `true` or `false`
+  unfoldable pub flag_of : Slot → List ℕ → Checked Bool
+  flag_of s text =
+      if bytes_eq text (codes "true") then Ok true
+      else if bytes_eq text (codes "false") then Ok false
+      else cannot_stand bytes t (value_leaf bytes t s)
+
   unfoldable pub flag_at : Slot → Checked Bool
-  flag_at s = do
-    text ← text_at bytes t s
-    if bytes_eq text (codes "true") then Ok true
-    else if bytes_eq text (codes "false") then Ok false
-    else cannot_stand bytes t (value_leaf bytes t s)
+  flag_at s = text_at bytes t s >>= flag_of s
 
   unfoldable pub with_type : Root → ℕ → Checked Root
   with_type r l = do
@@ -174,7 +178,7 @@ module _ (bytes : List ℕ) (t : Arena) where
   -- The recipes before a document, and its own behind them. Another document is passed over.
   unfoldable pub with_mapping : List Written → NodeId → Checked (List Written)
   with_mapping before mapping =
-      if is_recipe mapping then recipe_of before mapping >>= λ w. Ok (before ++ w ∷ []) else Ok before
+      if is_recipe mapping then (recipe_of before mapping >>= λ w. Ok (before ++ w ∷ [])) else Ok before
 
   unfoldable pub with_document : List Written → NodeId → Checked (List Written)
   with_document before n = elim (value_at bytes t (document_value t n)) [
