@@ -1,0 +1,4 @@
+pub mod NodeParts
+pub mod Binds
+pub mod LeafPlaces
+pub mod BookSteps

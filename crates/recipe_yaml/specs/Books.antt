@@ -1,5 +1,5 @@
 -- The recipes of a recipe file: YAML, of which each document with the type of a recipe defines one.
-use Rattle.std.specs.Prelude.{ℕ, ◌&&◌, ◌||◌, Bool, true, false, List, [], ◌∷◌, ◌++◌, codes, Option, Some, None, is_some}
+use Rattle.std.specs.Prelude.{ℕ, ◌&&◌, ◌||◌, Bool, true, false, List, [], codes, Option, Some, None, is_some}
 use Rattle.std.specs.Prelude.{unwrap_or, Result, Ok, Err, if◌then◌else◌}
 use Rattle.std.specs.List.{list_any}
 use Rattle.std.specs.Str.{bytes_eq}
@@ -19,10 +19,10 @@ use Rattle.recipe_yaml.specs.declared.node.Value.TheVariants as value
 use Rattle.recipe_yaml.specs.declared.root.Root.{Root}
 use Rattle.recipe_yaml.specs.declared.root.RootKey.{RootKey}
 use Rattle.recipe_yaml.specs.declared.root.RootKey.TheVariants as key
-use Rattle.recipe_yaml.specs.Checked.{Checked, ◌>>=◌}
+use Rattle.recipe_yaml.specs.Checked.{Checked, ◌>>=◌, each, one_more}
 use Rattle.recipe_yaml.specs.Names.{is_known}
-use Rattle.recipe_yaml.specs.Nodes.{nodes_of, entry_key, entry_value, last_leaf, document_value, value_at}
-use Rattle.recipe_yaml.specs.WrittenEntries.{leaf_place, cannot_stand, value_leaf, once, text_at, entries_at}
+use Rattle.recipe_yaml.specs.Nodes.{nodes_of, value_leaf, entry_key, entry_value, last_leaf, document_value, value_at}
+use Rattle.recipe_yaml.specs.WrittenEntries.{leaf_place, cannot_stand, once, text_at, entries_at}
 
 -- ---- the keys of a root mapping
 
@@ -65,7 +65,7 @@ module _ (bytes : List ℕ) (t : Arena) where
   -- fault 3, at the name
   unfoldable pub free_name : List Written → Slot → List ℕ → Checked (List ℕ)
   free_name before s name =
-      if is_taken before name then Err (Wrong 3 (Some (leaf_place bytes t (value_leaf bytes t s)))) else Ok name
+      if is_taken before name then Err (Wrong 3 (Some (leaf_place bytes t (value_leaf t s)))) else Ok name
 
   unfoldable pub name_at : List Written → Slot → Checked (List ℕ)
   name_at before s = text_at bytes t s >>= free_name before s
@@ -75,7 +75,7 @@ module _ (bytes : List ℕ) (t : Arena) where
   flag_of s text =
       if bytes_eq text (codes "true") then Ok true
       else if bytes_eq text (codes "false") then Ok false
-      else cannot_stand bytes t (value_leaf bytes t s)
+      else cannot_stand bytes t (value_leaf t s)
 
   unfoldable pub flag_at : Slot → Checked Bool
   flag_at s = text_at bytes t s >>= flag_of s
@@ -122,26 +122,20 @@ module _ (bytes : List ℕ) (t : Arena) where
     })
 
   -- an entry with a key of this kind at leaf l, and this value
-  unfoldable pub with_entry : List Written → Root → RootKey → ℕ → Slot → Checked Root
-  with_entry before r key.Type l s = with_type r l
-  with_entry before r key.Name l s = with_name before r l s
-  with_entry before r key.Preconditions l s = with_conditions r l s
-  with_entry before r key.RecipeList l s = with_list r l s
-  with_entry before r key.CausesAnotherCycle l s = with_again r l s
-  with_entry before r key.Unknown l s = Ok r
+  unfoldable pub with_root_entry : List Written → Root → RootKey → ℕ → Slot → Checked Root
+  with_root_entry before r key.Type l s = with_type r l
+  with_root_entry before r key.Name l s = with_name before r l s
+  with_root_entry before r key.Preconditions l s = with_conditions r l s
+  with_root_entry before r key.RecipeList l s = with_list r l s
+  with_root_entry before r key.CausesAnotherCycle l s = with_again r l s
+  with_root_entry before r key.Unknown l s = Ok r
 
   -- a node of a root mapping; what is no entry is passed over
   unfoldable pub with_node : List Written → Root → NodeId → Checked Root
   with_node before r n = elim (entry_key t n) [
-    | Some l ↦ with_entry before r (root_key (scalar_of bytes t l)) l (entry_value t n)
+    | Some l ↦ with_root_entry before r (root_key (scalar_of bytes t l)) l (entry_value t n)
     | None ↦ Ok r
   ]
-
-  unfoldable pub with_nodes : List Written → Root → List NodeId → Checked Root
-  with_nodes before r [] = Ok r
-  with_nodes before r (n ∷ ns) = do
-    more ← with_node before r n
-    with_nodes before more ns
 
   -- ---- documents
 
@@ -162,7 +156,7 @@ module _ (bytes : List ℕ) (t : Arena) where
 
   unfoldable pub recipe_of : List Written → NodeId → Checked Written
   recipe_of before mapping = do
-    r ← with_nodes before no_root (nodes_of t mapping)
+    r ← each (with_node before) no_root (nodes_of t mapping)
     finished mapping r
 
   -- a mapping is that of a recipe where an entry of it has the type of a recipe
@@ -178,7 +172,7 @@ module _ (bytes : List ℕ) (t : Arena) where
   -- The recipes before a document, and its own behind them. Another document is passed over.
   unfoldable pub with_mapping : List Written → NodeId → Checked (List Written)
   with_mapping before mapping =
-      if is_recipe mapping then (recipe_of before mapping >>= λ w. Ok (before ++ w ∷ [])) else Ok before
+      if is_recipe mapping then one_more before (recipe_of before mapping) else Ok before
 
   unfoldable pub with_document : List Written → NodeId → Checked (List Written)
   with_document before n = elim (value_at bytes t (document_value t n)) [
@@ -188,14 +182,8 @@ module _ (bytes : List ℕ) (t : Arena) where
     | value.Other ↦ Ok before
   ]
 
-  unfoldable pub with_documents : List Written → List NodeId → Checked (List Written)
-  with_documents before [] = Ok before
-  with_documents before (n ∷ ns) = do
-    more ← with_document before n
-    with_documents more ns
-
   unfoldable pub book_in : Checked RecipeBook
-  book_in = with_documents [] (nodes_of t (record { 0 = t.root })) >>= λ ws. Ok (record { recipes = ws })
+  book_in = each with_document [] (nodes_of t (record { 0 = t.root })) >>= λ ws. Ok (record { recipes = ws })
 
 -- the book of a file, by what it reads as
 unfoldable pub book_of : List ℕ → Reading → Checked RecipeBook

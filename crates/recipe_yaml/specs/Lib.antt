@@ -3,3 +3,4 @@ pub mod Checked
 pub mod Nodes
 pub mod WrittenEntries
 pub mod Books
+pub mod Parts

@@ -51,7 +51,15 @@ module _ (t : Arena) where
     | Some n ↦ if has_anchor n then record { outer = n; node = node_part n 1 } else s
   ]
 
+  -- Where a value is missing or is none that can stand: the leaf behind the colon or the dash, or behind its anchor.
+  abbrev pub value_leaf : Slot → ℕ
+  value_leaf s = beginning (behind_anchor s)
+
   -- ---- mappings
+
+  -- whether a flow collection is a mapping
+  abbrev pub is_flow_mapping : NodeId → Bool
+  is_flow_mapping n = has_class (class_in t.leaves) BRACE_OPEN (leaf_part n 0)
 
   -- the key of a node in a mapping, where it is an entry: in a flow mapping, one with a colon behind a scalar alone
   abbrev pub scalar_leaf : NodeId → Option ℕ
@@ -118,7 +126,7 @@ module _ (bytes : List ℕ) (t : Arena) where
       else if kind_at t n == MAP then value.Mapping n
       else if kind_at t n == SEQ then value.Sequence n
       else if kind_at t n == FLOW then
-      (if has_class (class_in t.leaves) BRACE_OPEN (leaf_part t n 0) then value.Mapping n else value.Sequence n)
+      (if is_flow_mapping t n then value.Mapping n else value.Sequence n)
       else value.Other
 
   -- and what stands at a place, behind its anchor

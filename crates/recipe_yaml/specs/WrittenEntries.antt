@@ -1,6 +1,6 @@
 -- The entries of the lists of a recipe document, and their options. Each word says what comes of a part of a document:
 -- what it is, or the first leaf in it that can't stand there.
-use Rattle.std.specs.Prelude.{ℕ, Bool, true, false, List, [], ◌∷◌, ◌++◌, Option, Some, None, Ok, Err, if◌then◌else◌}
+use Rattle.std.specs.Prelude.{ℕ, Bool, true, false, List, [], ◌∷◌, Option, Some, None, Ok, Err, if◌then◌else◌}
 use Rattle.std.specs.List.{list_any}
 use Rattle.std.specs.Str.{bytes_eq}
 use Rattle.rw_base.specs.declared.place.Place.{Place}
@@ -13,9 +13,13 @@ use Rattle.recipe_yaml.specs.declared.book.WrittenOption.{WrittenOption}
 use Rattle.recipe_yaml.specs.declared.fault.RecipeFault.TheVariants.{Wrong}
 use Rattle.recipe_yaml.specs.declared.node.Slot.{Slot}
 use Rattle.recipe_yaml.specs.declared.node.Value.TheVariants as value
-use Rattle.recipe_yaml.specs.Checked.{Checked, ◌>>=◌}
-use Rattle.recipe_yaml.specs.Nodes.{nodes_of, beginning, behind_anchor, entry_key, entry_value, stray_leaf, last_leaf}
+use Rattle.recipe_yaml.specs.Checked.{Checked, ◌>>=◌, each, one_more}
+use Rattle.recipe_yaml.specs.Nodes.{nodes_of, value_leaf, entry_key, entry_value, stray_leaf, last_leaf}
 use Rattle.recipe_yaml.specs.Nodes.{item_value, item_colon, sequence_leaf, value_at}
+
+-- whether one of the options has this key
+abbrev pub has_option : List ℕ → List WrittenOption → Bool
+has_option name options = list_any (λ o. bytes_eq o.key name) options
 
 module _ (bytes : List ℕ) (t : Arena) where
   -- where the text of a leaf begins
@@ -26,10 +30,6 @@ module _ (bytes : List ℕ) (t : Arena) where
   abbrev pub cannot_stand : {A : Type 0} → ℕ → Checked A
   cannot_stand l = Err (Wrong 2 (Some (leaf_place l)))
 
-  -- Where a value is missing or is none that can stand: the leaf behind the colon or the dash, or behind its anchor.
-  abbrev pub value_leaf : Slot → ℕ
-  value_leaf s = beginning t (behind_anchor t s)
-
   -- what isn't there before may come
   abbrev pub once : Bool → ℕ → Checked (Unit {0})
   once before l = if before then cannot_stand l else Ok tt
@@ -39,9 +39,9 @@ module _ (bytes : List ℕ) (t : Arena) where
   unfoldable pub text_at : Slot → Checked (List ℕ)
   text_at s = elim (value_at bytes t s) [
     | value.Scalar text ↦ Ok text
-    | value.Mapping n ↦ cannot_stand (value_leaf s)
-    | value.Sequence n ↦ cannot_stand (value_leaf s)
-    | value.Other ↦ cannot_stand (value_leaf s)
+    | value.Mapping n ↦ cannot_stand (value_leaf t s)
+    | value.Sequence n ↦ cannot_stand (value_leaf t s)
+    | value.Other ↦ cannot_stand (value_leaf t s)
   ]
 
   -- an item ends behind its value
@@ -54,12 +54,12 @@ module _ (bytes : List ℕ) (t : Arena) where
     end ← item_ends n
     Ok text
 
-  -- the texts of items, behind those before them
-  unfoldable pub texts : List (List ℕ) → List NodeId → Checked (List (List ℕ))
-  texts before [] = Ok before
-  texts before (n ∷ ns) = do
-    text ← item_text n
-    texts (before ++ text ∷ []) ns
+  abbrev pub with_text : List (List ℕ) → NodeId → Checked (List (List ℕ))
+  with_text before n = one_more before (item_text n)
+
+  -- the texts of all items
+  abbrev pub texts : List NodeId → Checked (List (List ℕ))
+  texts ns = each with_text [] ns
 
   -- ---- options
 
@@ -82,14 +82,11 @@ module _ (bytes : List ℕ) (t : Arena) where
   -- an option with its key: a scalar or a sequence of scalars
   unfoldable pub option_at : List ℕ → ℕ → Slot → Checked WrittenOption
   option_at name key s = elim (value_at bytes t s) [
-    | value.Scalar text ↦ Ok (option_of name key (text ∷ []) false (value_leaf s))
-    | value.Sequence n ↦ texts [] (nodes_of t n) >>= λ values. Ok (option_of name key values true (sequence_leaf t n))
-    | value.Mapping n ↦ cannot_stand (value_leaf s)
-    | value.Other ↦ cannot_stand (value_leaf s)
+    | value.Scalar text ↦ Ok (option_of name key (text ∷ []) false (value_leaf t s))
+    | value.Sequence n ↦ texts (nodes_of t n) >>= λ values. Ok (option_of name key values true (sequence_leaf t n))
+    | value.Mapping n ↦ cannot_stand (value_leaf t s)
+    | value.Other ↦ cannot_stand (value_leaf t s)
   ]
-
-  abbrev pub has_option : List ℕ → List WrittenOption → Bool
-  has_option name options = list_any (λ o. bytes_eq o.key name) options
 
   -- an option behind others, none of which has its key
   unfoldable pub written_option : List WrittenOption → NodeId → Checked WrittenOption
@@ -99,18 +96,15 @@ module _ (bytes : List ℕ) (t : Arena) where
     new ← once (has_option name before) key
     option_at name key (entry_value t n)
 
-  unfoldable pub options : List WrittenOption → List NodeId → Checked (List WrittenOption)
-  options before [] = Ok before
-  options before (n ∷ ns) = do
-    o ← written_option before n
-    options (before ++ o ∷ []) ns
+  abbrev pub with_option : List WrittenOption → NodeId → Checked (List WrittenOption)
+  with_option before n = one_more before (written_option before n)
 
   unfoldable pub options_at : Slot → Checked (List WrittenOption)
   options_at s = elim (value_at bytes t s) [
-    | value.Mapping n ↦ options [] (nodes_of t n)
-    | value.Sequence n ↦ cannot_stand (value_leaf s)
-    | value.Scalar text ↦ cannot_stand (value_leaf s)
-    | value.Other ↦ cannot_stand (value_leaf s)
+    | value.Mapping n ↦ each with_option [] (nodes_of t n)
+    | value.Sequence n ↦ cannot_stand (value_leaf t s)
+    | value.Scalar text ↦ cannot_stand (value_leaf t s)
+    | value.Other ↦ cannot_stand (value_leaf t s)
   ]
 
   -- ---- entries
@@ -136,10 +130,10 @@ module _ (bytes : List ℕ) (t : Arena) where
   -- a recipe's name alone, or such a mapping
   unfoldable pub entry_at : Slot → Checked WrittenEntry
   entry_at s = elim (value_at bytes t s) [
-    | value.Scalar name ↦ Ok (entry_of name (value_leaf s) [])
+    | value.Scalar name ↦ Ok (entry_of name (value_leaf t s) [])
     | value.Mapping n ↦ named n (nodes_of t n)
-    | value.Sequence n ↦ cannot_stand (value_leaf s)
-    | value.Other ↦ cannot_stand (value_leaf s)
+    | value.Sequence n ↦ cannot_stand (value_leaf t s)
+    | value.Other ↦ cannot_stand (value_leaf t s)
   ]
 
   unfoldable pub item_entry : NodeId → Checked WrittenEntry
@@ -148,17 +142,14 @@ module _ (bytes : List ℕ) (t : Arena) where
     end ← item_ends n
     Ok e
 
-  unfoldable pub entries : List WrittenEntry → List NodeId → Checked (List WrittenEntry)
-  entries before [] = Ok before
-  entries before (n ∷ ns) = do
-    e ← item_entry n
-    entries (before ++ e ∷ []) ns
+  abbrev pub with_entry : List WrittenEntry → NodeId → Checked (List WrittenEntry)
+  with_entry before n = one_more before (item_entry n)
 
   -- the entries of a list of recipes
   unfoldable pub entries_at : Slot → Checked (List WrittenEntry)
   entries_at s = elim (value_at bytes t s) [
-    | value.Sequence n ↦ entries [] (nodes_of t n)
-    | value.Mapping n ↦ cannot_stand (value_leaf s)
-    | value.Scalar text ↦ cannot_stand (value_leaf s)
-    | value.Other ↦ cannot_stand (value_leaf s)
+    | value.Sequence n ↦ each with_entry [] (nodes_of t n)
+    | value.Mapping n ↦ cannot_stand (value_leaf t s)
+    | value.Scalar text ↦ cannot_stand (value_leaf t s)
+    | value.Other ↦ cannot_stand (value_leaf t s)
   ]
