@@ -1,6 +1,6 @@
 -- The book of a file by what it reads as.
-use Rattle.std.proofs.Common.{◌≡◌, ◌≢◌, ℕ, ◌≤◌, List, length, Option, Some, Result, Ok, Err, refl, sym, ap, subst, ◌∙◌}
-use Rattle.std.specs.Prelude.{codes, IfOk, IfErr}
+use Rattle.std.proofs.Common.{◌≡◌, ◌≢◌, ℕ, ◌≤◌, List, [], length, Option, Some, Result, Ok, Err, refl, sym, ap, subst, ◌∙◌}
+use Rattle.std.specs.Prelude.{codes}
 use Rattle.rw_base.specs.declared.leaves.TheConstants.{MOST_BYTES}
 use Rattle.rw_base.specs.declared.reading.Reading.{Reading}
 use Rattle.rw_base.specs.declared.reading.Reading.TheVariants as reading
@@ -14,7 +14,7 @@ use Rattle.kept_files.specs.Kinds.{kind_of}
 use Rattle.kept_files.specs.Readings.{IsReading, IsReadAs, Reads, AreReadings, java_reading, yaml_reading, properties_reading}
 use Rattle.recipe_yaml.specs.declared.book.RecipeBook.{RecipeBook}
 use Rattle.recipe_yaml.specs.declared.fault.RecipeFault.{RecipeFault}
-use Rattle.recipe_yaml.specs.declared.fault.RecipeFault.TheVariants.{NoMemory}
+use Rattle.recipe_yaml.specs.declared.fault.RecipeFault.TheVariants.{Wrong, NoMemory}
 use Rattle.recipe_yaml.specs.Checked.{Gives}
 use Rattle.recipe_yaml.specs.Books.{book_of, book_in, recipes_in}
 
@@ -49,21 +49,29 @@ pub book_yaml : (bytes : List ℕ) (t : Arena) → book_in bytes t ≡ book_of b
 unfolding book_of
 book_yaml bytes t = refl
 
+pub book_refused : (bytes : List ℕ) (refused : Refused) (r : Reading) → r ≡ reading.Refused refused
+    → book_of bytes r ≡ Err (Wrong 1 (Some refused.place))
+unfolding book_of
+book_refused bytes refused r is = ap (book_of bytes) is
+
+module _ (bytes : List ℕ) (r : Reading) (book : RecipeBook) (none : book ≡ record { recipes = [] }) where
+  pub book_java : (t : Arena) → r ≡ reading.Java t → book_of bytes r ≡ Ok book
+  unfolding book_of
+  book_java t is = ap (book_of bytes) is ∙ ap Ok (sym none)
+
+  pub book_properties : (t : Arena) → r ≡ reading.Properties t → book_of bytes r ≡ Ok book
+  unfolding book_of
+  book_properties t is = ap (book_of bytes) is ∙ ap Ok (sym none)
+
+  pub book_unread : r ≡ reading.Unread → book_of bytes r ≡ Ok book
+  unfolding book_of
+  book_unread is = ap (book_of bytes) is ∙ ap Ok (sym none)
+
 -- the answer by the reading is that of the file
 pub book_is : (read : Reads) (bytes : List ℕ) (r : Reading) (result : Result RecipeBook RecipeFault)
     → r ≡ read (codes "recipes.yml") (Some bytes) → Gives result (book_of bytes r)
     → Gives result (recipes_in read bytes)
 unfolding recipes_in
 book_is read bytes r result e given = subst (λ x. Gives result (book_of bytes x)) e given
-
-pub gives_ok : (result : Result RecipeBook RecipeFault) (all : Result RecipeBook RecipeFault) → Gives result all
-    → IfOk result (λ book. all ≡ Ok book)
-gives_ok (Ok book) all given = given
-gives_ok (Err fault) all given = tt
-
-pub gives_err : (result : Result RecipeBook RecipeFault) (all : Result RecipeBook RecipeFault) → Gives result all
-    → IfErr result (λ fault. fault ≢ NoMemory → all ≡ Err fault)
-gives_err (Ok book) all given = tt
-gives_err (Err fault) all given = given
 
 pub ruleset readings = (small_file, book_yaml)

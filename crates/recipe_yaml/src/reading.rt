@@ -109,7 +109,14 @@ fn is_taken(before: &[Written], name: &[u8]) -> bool
 
 // The name of a recipe, which isn't taken.
 #[tactic(auto, using(crate::proofs::Binds::binds), unfolding(crate::specs::Books::name_at, crate::specs::Books::free_name))]
-fn name_at(alloc: Global, tree: &Tree, bytes: &[u8], places: &[Place], before: &[Written], s: Slot) -> Result<Text, RecipeFault>
+fn name_at(
+    alloc: Global,
+    tree: &Tree,
+    bytes: &[u8],
+    places: &[Place],
+    before: &[Written],
+    s: Slot,
+) -> Result<Text, RecipeFault>
     requires bytes { length bytes.now ≡ end_of tree.now }
     requires places { places.now ≡ leaf_places bytes.now tree.now }
     requires slot { IsSlot tree.now s }
@@ -127,7 +134,13 @@ fn name_at(alloc: Global, tree: &Tree, bytes: &[u8], places: &[Place], before: &
 
 // `true` or `false`.
 #[tactic(auto, using(crate::proofs::Binds::binds), unfolding(crate::specs::Books::flag_of))]
-fn flag_of(tree: &Tree, bytes: &[u8], places: &[Place], s: Slot, text: &[u8]) -> Result<bool, RecipeFault>
+fn flag_of(
+    tree: &Tree,
+    bytes: &[u8],
+    places: &[Place],
+    s: Slot,
+    text: &[u8],
+) -> Result<bool, RecipeFault>
     requires bytes { length bytes.now ≡ end_of tree.now }
     requires places { places.now ≡ leaf_places bytes.now tree.now }
     requires slot { IsSlot tree.now s }
@@ -144,7 +157,13 @@ fn flag_of(tree: &Tree, bytes: &[u8], places: &[Place], s: Slot, text: &[u8]) ->
 
 // A value that is one of them.
 #[tactic(auto, using(crate::proofs::Binds::binds), unfolding(crate::specs::Books::flag_at))]
-fn flag_at(alloc: Global, tree: &Tree, bytes: &[u8], places: &[Place], s: Slot) -> Result<bool, RecipeFault>
+fn flag_at(
+    alloc: Global,
+    tree: &Tree,
+    bytes: &[u8],
+    places: &[Place],
+    s: Slot,
+) -> Result<bool, RecipeFault>
     requires bytes { length bytes.now ≡ end_of tree.now }
     requires places { places.now ≡ leaf_places bytes.now tree.now }
     requires slot { IsSlot tree.now s }
@@ -157,7 +176,13 @@ fn flag_at(alloc: Global, tree: &Tree, bytes: &[u8], places: &[Place], s: Slot) 
 
 // Notes the type.
 #[tactic(auto, using(crate::proofs::Binds::binds), unfolding(crate::specs::Books::with_type))]
-fn with_type(tree: &Tree, bytes: &[u8], places: &[Place], l: u32, root: &mut Root) -> Result<(), RecipeFault>
+fn with_type(
+    tree: &Tree,
+    bytes: &[u8],
+    places: &[Place],
+    l: u32,
+    root: &mut Root,
+) -> Result<(), RecipeFault>
     requires bytes { length bytes.now ≡ end_of tree.now }
     requires places { places.now ≡ leaf_places bytes.now tree.now }
     ensures { Leaves result root.new (with_type bytes.now tree.now root.old l) }
@@ -169,7 +194,16 @@ fn with_type(tree: &Tree, bytes: &[u8], places: &[Place], l: u32, root: &mut Roo
 
 // Notes the name.
 #[tactic(auto, using(crate::proofs::Binds::binds), unfolding(crate::specs::Books::with_name))]
-fn with_name(alloc: Global, tree: &Tree, bytes: &[u8], places: &[Place], before: &[Written], l: u32, s: Slot, root: &mut Root) -> Result<(), RecipeFault>
+fn with_name(
+    alloc: Global,
+    tree: &Tree,
+    bytes: &[u8],
+    places: &[Place],
+    before: &[Written],
+    l: u32,
+    s: Slot,
+    root: &mut Root,
+) -> Result<(), RecipeFault>
     requires bytes { length bytes.now ≡ end_of tree.now }
     requires places { places.now ≡ leaf_places bytes.now tree.now }
     requires slot { IsSlot tree.now s }
@@ -182,7 +216,15 @@ fn with_name(alloc: Global, tree: &Tree, bytes: &[u8], places: &[Place], before:
 
 // Notes the preconditions.
 #[tactic(auto, using(crate::proofs::Binds::binds), unfolding(crate::specs::Books::with_conditions))]
-fn with_conditions(alloc: Global, tree: &Tree, bytes: &[u8], places: &[Place], l: u32, s: Slot, root: &mut Root) -> Result<(), RecipeFault>
+fn with_conditions(
+    alloc: Global,
+    tree: &Tree,
+    bytes: &[u8],
+    places: &[Place],
+    l: u32,
+    s: Slot,
+    root: &mut Root,
+) -> Result<(), RecipeFault>
     requires bytes { length bytes.now ≡ end_of tree.now }
     requires places { places.now ≡ leaf_places bytes.now tree.now }
     requires slot { IsSlot tree.now s }
@@ -195,7 +237,15 @@ fn with_conditions(alloc: Global, tree: &Tree, bytes: &[u8], places: &[Place], l
 
 // Notes the list.
 #[tactic(auto, using(crate::proofs::Binds::binds), unfolding(crate::specs::Books::with_list))]
-fn with_list(alloc: Global, tree: &Tree, bytes: &[u8], places: &[Place], l: u32, s: Slot, root: &mut Root) -> Result<(), RecipeFault>
+fn with_list(
+    alloc: Global,
+    tree: &Tree,
+    bytes: &[u8],
+    places: &[Place],
+    l: u32,
+    s: Slot,
+    root: &mut Root,
+) -> Result<(), RecipeFault>
     requires bytes { length bytes.now ≡ end_of tree.now }
     requires places { places.now ≡ leaf_places bytes.now tree.now }
     requires slot { IsSlot tree.now s }
@@ -208,7 +258,15 @@ fn with_list(alloc: Global, tree: &Tree, bytes: &[u8], places: &[Place], l: u32,
 
 // Notes whether there may be another cycle.
 #[tactic(auto, using(crate::proofs::Binds::binds), unfolding(crate::specs::Books::with_again))]
-fn with_again(alloc: Global, tree: &Tree, bytes: &[u8], places: &[Place], l: u32, s: Slot, root: &mut Root) -> Result<(), RecipeFault>
+fn with_again(
+    alloc: Global,
+    tree: &Tree,
+    bytes: &[u8],
+    places: &[Place],
+    l: u32,
+    s: Slot,
+    root: &mut Root,
+) -> Result<(), RecipeFault>
     requires bytes { length bytes.now ≡ end_of tree.now }
     requires places { places.now ≡ leaf_places bytes.now tree.now }
     requires slot { IsSlot tree.now s }
@@ -221,7 +279,17 @@ fn with_again(alloc: Global, tree: &Tree, bytes: &[u8], places: &[Place], l: u32
 
 // Notes an entry with a key at leaf l.
 #[tactic(auto, using(crate::proofs::Binds::binds), unfolding(crate::specs::Books::with_root_entry))]
-fn with_root_entry(alloc: Global, tree: &Tree, bytes: &[u8], places: &[Place], before: &[Written], key: RootKey, l: u32, s: Slot, root: &mut Root) -> Result<(), RecipeFault>
+fn with_root_entry(
+    alloc: Global,
+    tree: &Tree,
+    bytes: &[u8],
+    places: &[Place],
+    before: &[Written],
+    key: RootKey,
+    l: u32,
+    s: Slot,
+    root: &mut Root,
+) -> Result<(), RecipeFault>
     requires bytes { length bytes.now ≡ end_of tree.now }
     requires places { places.now ≡ leaf_places bytes.now tree.now }
     requires slot { IsSlot tree.now s }
@@ -239,7 +307,15 @@ fn with_root_entry(alloc: Global, tree: &Tree, bytes: &[u8], places: &[Place], b
 
 // Notes a node of a root mapping.
 #[tactic(auto, using(crate::proofs::Binds::binds), unfolding(crate::specs::Books::with_node))]
-fn with_node(alloc: Global, tree: &Tree, bytes: &[u8], places: &[Place], before: &[Written], n: NodeId, root: &mut Root) -> Result<(), RecipeFault>
+fn with_node(
+    alloc: Global,
+    tree: &Tree,
+    bytes: &[u8],
+    places: &[Place],
+    before: &[Written],
+    n: NodeId,
+    root: &mut Root,
+) -> Result<(), RecipeFault>
     requires bytes { length bytes.now ≡ end_of tree.now }
     requires places { places.now ≡ leaf_places bytes.now tree.now }
     requires node { IsNode tree.now n }
@@ -255,7 +331,14 @@ fn with_node(alloc: Global, tree: &Tree, bytes: &[u8], places: &[Place], before:
 }
 
 // What the nodes of a root mapping say.
-fn with_nodes(alloc: Global, tree: &Tree, bytes: &[u8], places: &[Place], before: &[Written], nodes: &[NodeId]) -> Result<Root, RecipeFault>
+fn with_nodes(
+    alloc: Global,
+    tree: &Tree,
+    bytes: &[u8],
+    places: &[Place],
+    before: &[Written],
+    nodes: &[NodeId],
+) -> Result<Root, RecipeFault>
     requires bytes { length bytes.now ≡ end_of tree.now }
     requires places { places.now ≡ leaf_places bytes.now tree.now }
     requires nodes { AreNodes tree.now nodes.now }
@@ -286,7 +369,14 @@ fn entries_or_none(alloc: Global, entries: Option<Items<WrittenEntry>>) -> Items
 
 // The recipe of a root mapping.
 #[tactic(auto, using(crate::proofs::Binds::binds), unfolding(crate::specs::Books::finished))]
-fn finished(alloc: Global, tree: &Tree, bytes: &[u8], places: &[Place], mapping: NodeId, root: Root) -> Result<Written, RecipeFault>
+fn finished(
+    alloc: Global,
+    tree: &Tree,
+    bytes: &[u8],
+    places: &[Place],
+    mapping: NodeId,
+    root: Root,
+) -> Result<Written, RecipeFault>
     requires bytes { length bytes.now ≡ end_of tree.now }
     requires places { places.now ≡ leaf_places bytes.now tree.now }
     requires mapping { IsNode tree.now mapping }
@@ -316,7 +406,15 @@ fn finished(alloc: Global, tree: &Tree, bytes: &[u8], places: &[Place], mapping:
 
 // The recipe of a document.
 #[tactic(auto, using(crate::proofs::Binds::binds), unfolding(crate::specs::Books::recipe_of))]
-fn recipe_of(alloc: Global, tree: &Tree, bytes: &[u8], places: &[Place], before: &[Written], mapping: NodeId, nodes: &[NodeId]) -> Result<Written, RecipeFault>
+fn recipe_of(
+    alloc: Global,
+    tree: &Tree,
+    bytes: &[u8],
+    places: &[Place],
+    before: &[Written],
+    mapping: NodeId,
+    nodes: &[NodeId],
+) -> Result<Written, RecipeFault>
     requires bytes { length bytes.now ≡ end_of tree.now }
     requires places { places.now ≡ leaf_places bytes.now tree.now }
     requires mapping { IsNode tree.now mapping }
@@ -361,7 +459,14 @@ fn has_recipe(alloc: Global, tree: &Tree, bytes: &[u8], nodes: &[NodeId]) -> Mem
 
 // Adds the recipe of a mapping, if it is that of one.
 #[tactic(auto, using(crate::proofs::Binds::binds), unfolding(crate::specs::Books::with_mapping))]
-fn with_mapping(alloc: Global, tree: &Tree, bytes: &[u8], places: &[Place], mapping: NodeId, recipes: &mut Items<Written>) -> Result<(), RecipeFault>
+fn with_mapping(
+    alloc: Global,
+    tree: &Tree,
+    bytes: &[u8],
+    places: &[Place],
+    mapping: NodeId,
+    recipes: &mut Items<Written>,
+) -> Result<(), RecipeFault>
     requires bytes { length bytes.now ≡ end_of tree.now }
     requires places { places.now ≡ leaf_places bytes.now tree.now }
     requires mapping { IsNode tree.now mapping }
@@ -372,14 +477,29 @@ fn with_mapping(alloc: Global, tree: &Tree, bytes: &[u8], places: &[Place], mapp
         return Ok(());
     }
     let before = recipes.as_slice();
-    let new = recipe_of(alloc, tree, bytes, places, before, mapping, nodes.as_slice())?;
+    let new = recipe_of(
+        alloc,
+        tree,
+        bytes,
+        places,
+        before,
+        mapping,
+        nodes.as_slice(),
+    )?;
     recipes.push(new)?;
     Ok(())
 }
 
 // Adds the recipe of a document, if it has one.
 #[tactic(auto, using(crate::proofs::Binds::binds), unfolding(crate::specs::Books::with_document))]
-fn with_document(alloc: Global, tree: &Tree, bytes: &[u8], places: &[Place], n: NodeId, recipes: &mut Items<Written>) -> Result<(), RecipeFault>
+fn with_document(
+    alloc: Global,
+    tree: &Tree,
+    bytes: &[u8],
+    places: &[Place],
+    n: NodeId,
+    recipes: &mut Items<Written>,
+) -> Result<(), RecipeFault>
     requires bytes { length bytes.now ≡ end_of tree.now }
     requires places { places.now ≡ leaf_places bytes.now tree.now }
     requires node { IsNode tree.now n }
@@ -427,7 +547,13 @@ fn leaf_places(alloc: Global, tree: &Tree, bytes: &[u8]) -> Mem<Vec<Place>>
 }
 
 // The recipes of all documents.
-fn documents(alloc: Global, tree: &Tree, bytes: &[u8], places: &[Place], n: NodeId) -> Result<Items<Written>, RecipeFault>
+fn documents(
+    alloc: Global,
+    tree: &Tree,
+    bytes: &[u8],
+    places: &[Place],
+    n: NodeId,
+) -> Result<Items<Written>, RecipeFault>
     requires bytes { length bytes.now ≡ end_of tree.now }
     requires places { places.now ≡ leaf_places bytes.now tree.now }
     requires node { IsNode tree.now n }
