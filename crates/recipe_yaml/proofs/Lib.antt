@@ -3,3 +3,7 @@ pub mod Gone
 pub mod Led
 pub mod AnyNumber
 pub mod Planned
+pub mod NodeParts
+pub mod Binds
+pub mod LeafPlaces
+pub mod BookSteps

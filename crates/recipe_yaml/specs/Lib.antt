@@ -5,3 +5,9 @@ pub mod Leaves
 pub mod Leading
 pub mod Walks
 pub mod Plans
+pub mod Names
+pub mod Checked
+pub mod Nodes
+pub mod WrittenEntries
+pub mod Books
+pub mod Parts
