@@ -8,3 +8,5 @@ pub mod YamlQuotes
 pub mod Loops
 pub mod YamlValues
 pub mod YamlJoinedKeys
+pub mod YamlDeletions
+pub mod YamlDeleted

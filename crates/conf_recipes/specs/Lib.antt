@@ -1,6 +1,7 @@
 pub mod PropertiesEdits
 pub mod YamlLeaves
 pub mod YamlJoinedKeys
+pub mod YamlDeletions
 pub mod YamlRecipes
 pub use Rattle.rw_base.specs.Arena
 pub use Rattle.rw_base.specs.NewText

@@ -30,6 +30,7 @@
 
 mod properties;
 mod renaming;
+mod yaml_deletions;
 mod yaml_joined_keys;
 mod yaml_keys;
 mod yaml_text;
@@ -37,6 +38,7 @@ mod yaml_values;
 
 pub use properties::edits_in_properties;
 pub use renaming::{edits_write_keys, renamed_in_properties};
+pub use yaml_deletions::edits_of_delete_key;
 pub use yaml_joined_keys::edits_of_yaml_change_property_key;
 pub use yaml_keys::edits_of_change_key;
 pub use yaml_values::edits_of_change_value;
