@@ -19,3 +19,5 @@ pub mod YamlQuotes
 pub mod Loops
 pub mod YamlValues
 pub mod YamlJoinedKeys
+pub mod YamlDeletions
+pub mod YamlDeleted

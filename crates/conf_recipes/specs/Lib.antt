@@ -6,6 +6,7 @@ pub mod FileRecipes
 pub mod RecipeLaws
 pub mod YamlLeaves
 pub mod YamlJoinedKeys
+pub mod YamlDeletions
 pub mod YamlRecipes
 pub use Rattle.rw_base.specs.Arena
 pub use Rattle.rw_base.specs.NewText

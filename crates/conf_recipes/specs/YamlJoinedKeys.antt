@@ -21,7 +21,7 @@ behind_dot (b ∷ rest) = if b == 46 then Some rest else None
 abbrev pub left_inside : List ℕ → List ℕ → Option (List ℕ)
 left_inside key keys = if bytes_eq (take (length key) keys) key then behind_dot (drop (length key) keys) else None
 
--- What is found in the parts of a node: whether it is a mapping, and what is left of the old and of the new joined keys.
+-- The edits in the parts of a node, by whether it is a mapping, and by what is left of the old and of the new keys.
 abbrev pub Inside : Type 0
 Inside = Bool → List ℕ → List ℕ → List Edit
 

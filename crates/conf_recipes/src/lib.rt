@@ -38,6 +38,7 @@ mod properties_recipes;
 mod recipe_laws;
 mod renaming;
 mod values;
+mod yaml_deletions;
 mod yaml_joined_keys;
 mod yaml_keys;
 mod yaml_text;
@@ -51,6 +52,7 @@ pub use properties_recipes::{
 };
 pub use recipe_laws::{added_entries_stand_at_the_end, deletes_leave_the_rest};
 pub use renaming::{edits_write_keys, renamed_in_properties};
+pub use yaml_deletions::edits_of_delete_key;
 pub use yaml_joined_keys::edits_of_yaml_change_property_key;
 pub use yaml_keys::edits_of_change_key;
 pub use yaml_values::edits_of_change_value;
