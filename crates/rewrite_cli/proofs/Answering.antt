@@ -1,91 +1,146 @@
--- How a command that was done, or stopped by a limit, meets its answer.
-use Rattle.std.specs.Prelude.{Result, Ok, Err, IsOk, ◌⊎◌}
-use Rattle.std.proofs.Common.{◌≡◌, ℕ, ◌<◌, ◌≤◌, ◌+◌, ◌++◌, ◌||◌, Bool, true, false, [], refl, ap, subst, ◌∙◌, arith, inl, inr}
-use Rattle.std.proofs.lemmas.Bool.{le-ltb, lt-ltb}
+-- How a command that was done, or stopped, meets its answer.
+use Rattle.std.specs.Prelude.{Option, Some, None, Result, Ok, Err, IsOk, ◌⊎◌}
+use Rattle.std.proofs.Common.{◌≡◌, ℕ, ◌<◌, ◌≤◌, ◌+◌, ◌++◌, ◌||◌, Bool, true, false, List, [], refl, sym, ap, subst, ◌∙◌, arith, inl, inr}
 use Rattle.std.specs.FinMap as map
 use Rattle.rw_host.specs.Files.{Files}
-use Rattle.kept_files.specs.Readings.{Reads}
-use Rattle.properties_tree.specs.declared.option.PropertiesChangePropertyKey.{PropertiesChangePropertyKey}
-use Rattle.rewrite_cli.specs.declared.limits.Limit.TheVariants as limit
-use Rattle.rewrite_cli.specs.declared.limits.TheConstants.{MOST_PATHS, MOST_FILES, MOST_IN_ALL}
+use Rattle.recipe_yaml.specs.declared.fault.RecipeFault.{RecipeFault}
+use Rattle.rewrite_cli.specs.declared.limits.Limit.{Limit}
+use Rattle.rewrite_cli.specs.declared.running.Ran.{Ran as ToldRan}
 use Rattle.rewrite_cli.specs.declared.stop.Done.{Done}
-use Rattle.rewrite_cli.specs.declared.stop.Stop.TheVariants as stop
-use Rattle.rewrite_cli.specs.Words.{rename, check}
-use Rattle.rewrite_cli.specs.Sources.{count_read, bytes_read}
-use Rattle.rewrite_cli.specs.Limits.{limit_of_run, limit_of_check}
-use Rattle.rewrite_cli.specs.Changes.{refuses_some, changes_of, put_all}
-use Rattle.rewrite_cli.specs.Checking.{any_refused, lines, count_line, check_text}
 use Rattle.rewrite_cli.specs.declared.stop.Stop.{Stop}
-use Rattle.rewrite_cli.specs.Answers.{Answer, AreLeft, answer, done}
-use Rattle.rewrite_cli.specs.Statuses.{IsAnswered, NamesNoFault, status_of, text_of}
-use Rattle.rewrite_cli.proofs.After.{after_all}
+use Rattle.rewrite_cli.specs.declared.stop.Stop.TheVariants as stop
+use Rattle.rewrite_cli.specs.Words.{Asked, apply, dry, check}
+use Rattle.rewrite_cli.specs.Sources.{count_read}
+use Rattle.rewrite_cli.specs.Limits.{limit_of}
+use Rattle.rewrite_cli.specs.Meanings.{Meanings}
+use Rattle.rewrite_cli.specs.Running.{Ran, Ends, ran, fault, past, ended}
+use Rattle.rewrite_cli.specs.Changes.{changes, entries_of, with_entries, IsPart}
+use Rattle.rewrite_cli.specs.Checking.{any_refused, lines, count_line, check_text}
+use Rattle.rewrite_cli.specs.Report.{report}
+use Rattle.rewrite_cli.specs.Answers.{Answer, answer, by_end, left_by, recipe_fault_line, done, tells}
+use Rattle.rewrite_cli.specs.Statuses.{IsAnswered, IsStopped, NamesNoFault, status_of, text_of}
+use Rattle.rewrite_cli.specs.Ends.{IsEnd, IsReadStop, IsRunStop, IsWriteStop, ran_told}
 
 not_four : NamesNoFault 4 → ⊥
 not_four (inl le) = absurd (omega (arith, le))
-not_four (inr e) = absurd (omega (arith, e))
+not_four (inr (inl e)) = absurd (omega (arith, e))
+not_four (inr (inr e)) = absurd (omega (arith, e))
 
 not_five : NamesNoFault 5 → ⊥
 not_five (inl le) = absurd (omega (arith, le))
-not_five (inr e) = absurd (omega (arith, e))
+not_five (inr (inl e)) = absurd (omega (arith, e))
+not_five (inr (inr e)) = absurd (omega (arith, e))
 
 not_six : NamesNoFault 6 → ⊥
 not_six (inl le) = absurd (omega (arith, le))
-not_six (inr e) = absurd (omega (arith, e))
+not_six (inr (inl e)) = absurd (omega (arith, e))
+not_six (inr (inr e)) = absurd (omega (arith, e))
 
-pub eight_is_not_seven : (n : ℕ) → n ≡ 8 → n ≡ 7 → ⊥
-eight_is_not_seven n e f = absurd (omega (arith, e, f))
+-- ---- `check`
 
-module _ (read : Reads) (files after : Files) where
-  -- ---- the recipe that renames a key
+module _ (meanings : Meanings) (files after : Files) where
+  pub checked : (d : Done) → limit_of files ≡ None → d.tells_of_files ≡ (false || any_refused meanings.read files (map.keys files))
+      → d.text.items ≡ count_line (count_read (map.keys files)) ++ lines meanings.read files (map.keys files) → after ≡ files → IsAnswered (answer meanings files check) (Ok d) after
+  unfolding IsAnswered answer check_text
+  checked d none refused text same = rw none (ap done refused, (text, same))
 
-  module _ (options : PropertiesChangePropertyKey) where
-    pub renamed : (d : Done) → map.len files ≤ MOST_PATHS → d.text.items ≡ [] → d.any_refused ≡ refuses_some options files → after ≡ put_all (changes_of options files) files
-        → IsAnswered (answer read files (rename options)) (Ok d) after
-    unfolding IsAnswered answer limit_of_run
-    renamed d le text refused made = rw (le-ltb MOST_PATHS (map.len files) le)
-        (ap done refused, (text, λ path. ap (λ n. map.get n path) made ∙ after_all options files path))
+  pub check_passed : (l : Limit) → limit_of files ≡ Some l → after ≡ files → IsAnswered (answer meanings files check) (Err (stop.Limit l)) after
+  unfolding IsAnswered answer
+  check_passed l e same = rw e (refl, (refl, same))
 
-    pub run_past_paths : MOST_PATHS < map.len files → after ≡ files → IsAnswered (answer read files (rename options)) (Err (stop.Limit limit.Paths)) after
-    unfolding IsAnswered answer limit_of_run
-    run_past_paths lt same = rw (lt-ltb MOST_PATHS (map.len files) lt) (refl, (refl, λ path. ap (λ n. map.get n path) same))
+  pub check_stopped : (s : Stop) → IsReadStop s → ((l : Limit) → s ≡ stop.Limit l → limit_of files ≡ Some l) → after ≡ files → IsAnswered (answer meanings files check) (Err s) after
+  unfolding IsAnswered IsReadStop
+  check_stopped (stop.Recipe line) i h same = absurd i
+  check_stopped stop.ReadFault i h same = tt
+  check_stopped stop.WriteFault i h same = absurd i
+  check_stopped stop.NoMemory i h same = tt
+  check_stopped (stop.Limit l) i h same = check_passed l (h l refl) same
 
-  -- ---- `check`
+  pub check_done : (d : Done) (ps : List (List ℕ)) → ps ≡ map.keys files → limit_of files ≡ None → d.tells_of_files ≡ (false || any_refused meanings.read files ps)
+      → d.text.items ≡ count_line (count_read ps) ++ lines meanings.read files ps → after ≡ files → IsAnswered (answer meanings files check) (Ok d) after
+  check_done d ps is none refused text same =
+      checked d none (refused ∙ ap (λ xs. false || any_refused meanings.read files xs) is) (text ∙ ap (λ xs. count_line (count_read xs) ++ lines meanings.read files xs) is) same
 
-  pub checked : (d : Done) → map.len files ≤ MOST_PATHS → count_read (map.keys files) ≤ MOST_FILES → bytes_read files (map.keys files) ≤ MOST_IN_ALL
-      → d.any_refused ≡ (false || any_refused read files (map.keys files)) → d.text.items ≡ count_line (count_read (map.keys files)) ++ lines read files (map.keys files) → after ≡ files
-      → IsAnswered (answer read files check) (Ok d) after
-  unfolding IsAnswered answer limit_of_check check_text
-  checked d paths count bytes refused text same = rw (le-ltb MOST_PATHS (map.len files) paths, le-ltb MOST_FILES (count_read (map.keys files)) count, le-ltb MOST_IN_ALL (bytes_read files (map.keys files)) bytes)
-      (ap done refused, (text, λ path. ap (λ n. map.get n path) same))
+-- a stop that no answer has
+module _ (a : Answer) (after : Files) where
+  pub read_fault : IsAnswered a (Err stop.ReadFault) after
+  unfolding IsAnswered
+  read_fault = tt
 
-  pub past_paths : MOST_PATHS < map.len files → after ≡ files → IsAnswered (answer read files check) (Err (stop.Limit limit.Paths)) after
-  unfolding IsAnswered answer limit_of_check
-  past_paths lt same = rw (lt-ltb MOST_PATHS (map.len files) lt) (refl, (refl, λ path. ap (λ n. map.get n path) same))
+  pub write_fault : IsAnswered a (Err stop.WriteFault) after
+  unfolding IsAnswered
+  write_fault = tt
 
-  pub past_files : map.len files ≤ MOST_PATHS → MOST_FILES < count_read (map.keys files) → after ≡ files → IsAnswered (answer read files check) (Err (stop.Limit limit.Files)) after
-  unfolding IsAnswered answer limit_of_check
-  past_files paths lt same = rw (le-ltb MOST_PATHS (map.len files) paths, lt-ltb MOST_FILES (count_read (map.keys files)) lt) (refl, (refl, λ path. ap (λ n. map.get n path) same))
+  pub no_memory : IsAnswered a (Err stop.NoMemory) after
+  unfolding IsAnswered
+  no_memory = tt
 
-  pub past_bytes : map.len files ≤ MOST_PATHS → count_read (map.keys files) ≤ MOST_FILES → MOST_IN_ALL < bytes_read files (map.keys files) → after ≡ files
-      → IsAnswered (answer read files check) (Err (stop.Limit limit.Bytes)) after
-  unfolding IsAnswered answer limit_of_check
-  past_bytes paths count lt same = rw (le-ltb MOST_PATHS (map.len files) paths, le-ltb MOST_FILES (count_read (map.keys files)) count, lt-ltb MOST_IN_ALL (bytes_read files (map.keys files)) lt)
-      (refl, (refl, λ path. ap (λ n. map.get n path) same))
+pub ruleset answered = (check_done, read_fault, write_fault, no_memory)
 
--- a fault that no answer has
-pub read_fault : (a : Answer) (after : Files) → IsAnswered a (Err stop.ReadFault) after
-unfolding IsAnswered
-read_fault a after = tt
+-- ---- `run` and `dry`, by how the recipe ended
 
-pub write_fault : (a : Answer) (after : Files) → IsAnswered a (Err stop.WriteFault) after
-unfolding IsAnswered
-write_fault a after = tt
+module _ (meanings : Meanings) (files after : Files) (asked : Asked) where
+  pub dry_done : (r : ToldRan) (d : Done) → ended meanings files asked ≡ ran (ran_told r) → d.text.items ≡ report asked (ran_told r) → d.tells_of_files ≡ tells (ran_told r).events → after ≡ files
+      → IsAnswered (answer meanings files (dry asked)) (Ok d) after
+  unfolding IsAnswered answer
+  dry_done r d e text told same = rw e (ap done told, (text, same))
 
-pub no_memory : (a : Answer) (after : Files) → IsAnswered a (Err stop.NoMemory) after
-unfolding IsAnswered
-no_memory a after = tt
+  pub apply_done : (r : ToldRan) (d : Done) → ended meanings files asked ≡ ran (ran_told r) → d.text.items ≡ report asked (ran_told r) → d.tells_of_files ≡ tells (ran_told r).events
+      → after ≡ with_entries (entries_of (changes (ran_told r).first (ran_told r).last)) files → IsAnswered (answer meanings files (apply asked)) (Ok d) after
+  unfolding IsAnswered answer
+  apply_done r d e text told made = rw e (ap done told, (text, made))
 
-pub ruleset answered = (renamed, run_past_paths, checked, past_paths, past_files, past_bytes, read_fault, write_fault, no_memory)
+  pub apply_stopped : (r : ToldRan) → ended meanings files asked ≡ ran (ran_told r) → IsPart (entries_of (changes (ran_told r).first (ran_told r).last)) files after → IsStopped (ended meanings files asked) files after
+  unfolding IsStopped
+  apply_stopped r e part = rw e part
+
+  module _ (text : Ran → List ℕ) (left : Ran → Files) where
+    fault_end : (f : RecipeFault) (line : List ℕ) → line ≡ recipe_fault_line f → after ≡ files → IsAnswered (by_end files text left (fault f)) (Err (stop.Recipe line)) after
+    unfolding IsAnswered
+    fault_end f line e same = (refl, (e, same))
+
+    past_end : (l : Limit) → after ≡ files → IsAnswered (by_end files text left (past l)) (Err (stop.Limit l)) after
+    unfolding IsAnswered
+    past_end l same = (refl, (refl, same))
+
+    not_ended : (ends : Ends) (s : Stop) → IsEnd ends (Err s) → after ≡ files → IsAnswered (by_end files text left ends) (Err s) after
+    unfolding IsEnd
+    not_ended ends (stop.Recipe line) (f, (e, l)) same = rw e (fault_end f line l same)
+    not_ended ends stop.ReadFault i same = read_fault (by_end files text left ends) after
+    not_ended ends stop.WriteFault i same = write_fault (by_end files text left ends) after
+    not_ended ends stop.NoMemory i same = no_memory (by_end files text left ends) after
+    not_ended ends (stop.Limit l) i same = rw i (past_end l same)
+
+  pub apply_ended : (s : Stop) → IsEnd (ended meanings files asked) (Err s) → after ≡ files → IsAnswered (answer meanings files (apply asked)) (Err s) after
+  unfolding answer
+  apply_ended s i same = not_ended (report asked) (left_by files) (ended meanings files asked) s i same
+
+  pub dry_ended : (s : Stop) → IsEnd (ended meanings files asked) (Err s) → after ≡ files → IsAnswered (answer meanings files (dry asked)) (Err s) after
+  unfolding answer
+  dry_ended s i same = not_ended (report asked) (λ r. files) (ended meanings files asked) s i same
+
+pub is_ran : (ends : Ends) (r : ToldRan) → IsEnd ends (Ok r) → ends ≡ ran (ran_told r)
+unfolding IsEnd
+is_ran ends r e = e
+
+pub write_stop : (a : Answer) (after : Files) (s : Stop) → IsWriteStop s → IsAnswered a (Err s) after
+unfolding IsWriteStop
+write_stop a after (stop.Recipe line) i = absurd i
+write_stop a after stop.ReadFault i = read_fault a after
+write_stop a after stop.WriteFault i = write_fault a after
+write_stop a after stop.NoMemory i = no_memory a after
+write_stop a after (stop.Limit l) i = absurd i
+
+-- stops that are no stops
+pub no_write : (s : Stop) → IsRunStop s → s ≡ stop.WriteFault → ⊥
+unfolding IsRunStop
+no_write s i e = subst (λ t. IsRunStop t) e i
+
+pub memory_run : IsRunStop stop.NoMemory
+unfolding IsRunStop
+memory_run = tt
+
+pub ruleset recipes = (dry_done, apply_done, apply_stopped, apply_ended, dry_ended, is_ran, write_stop, no_write, memory_run, read_fault, write_fault, no_memory)
 
 -- ---- what is put and left by how a command ended
 
@@ -97,6 +152,7 @@ module _ (a : Answer) (after : Files) where
   told_status (Err stop.WriteFault) is n = absurd (not_five n)
   told_status (Err stop.NoMemory) is n = absurd (not_six n)
   told_status (Err (stop.Limit l)) is n = is.0
+  told_status (Err (stop.Recipe line)) is n = is.0
 
   pub told_text : (ended : Result Done Stop) → IsAnswered a ended after → NamesNoFault (status_of ended) → text_of ended ≡ a.text
   unfolding IsAnswered
@@ -105,35 +161,43 @@ module _ (a : Answer) (after : Files) where
   told_text (Err stop.WriteFault) is n = absurd (not_five n)
   told_text (Err stop.NoMemory) is n = absurd (not_six n)
   told_text (Err (stop.Limit l)) is n = is.1.0
+  told_text (Err (stop.Recipe line)) is n = is.1.0
 
-  pub told_left : (ended : Result Done Stop) → IsAnswered a ended after → NamesNoFault (status_of ended) → AreLeft a after
+  pub told_left : (ended : Result Done Stop) → IsAnswered a ended after → NamesNoFault (status_of ended) → after ≡ a.left
   unfolding IsAnswered
   told_left (Ok d) is n = is.1.1
   told_left (Err stop.ReadFault) is n = absurd (not_four n)
   told_left (Err stop.WriteFault) is n = absurd (not_five n)
   told_left (Err stop.NoMemory) is n = absurd (not_six n)
   told_left (Err (stop.Limit l)) is n = is.1.1
+  told_left (Err (stop.Recipe line)) is n = is.1.1
 
   ok_told : (ended : Result Done Stop) → IsOk ended → NamesNoFault (status_of ended)
-  ok_told (Ok d) o = small d.any_refused where
+  ok_told (Ok d) o = small d.tells_of_files where
     small : (any : Bool) → NamesNoFault (done any)
     small true = inl (omega arith)
     small false = inl (omega arith)
   ok_told (Err e) o = absurd (let bad : false ≡ true = o in cc)
 
   ok_small : (ended : Result Done Stop) → IsOk ended → status_of ended ≤ 1
-  ok_small (Ok d) o = small d.any_refused where
+  ok_small (Ok d) o = small d.tells_of_files where
     small : (any : Bool) → done any ≤ 1
     small true = omega arith
     small false = omega arith
   ok_small (Err e) o = absurd (let bad : false ≡ true = o in cc)
+
+pub not_seven : (n : ℕ) → NamesNoFault n → n ≡ 7 → ⊥
+not_seven n (inl le) e = absurd (omega (arith, le, e))
+not_seven n (inr (inl three)) e = absurd (omega (arith, three, e))
+not_seven n (inr (inr eight)) e = absurd (omega (arith, eight, e))
 
 -- the status of the program, and the answer
 module _ (a : Answer) (after : Files) (ended : Result Done Stop) (result : ℕ) (is : IsAnswered a ended after)
     (by_status : (result ≡ 7 → ⊥) → result ≡ status_of ended) (cut : result ≡ 7 → IsOk ended) where
   not_cut : NamesNoFault result → result ≡ 7 → ⊥
   not_cut (inl le) e = absurd (omega (arith, le, e))
-  not_cut (inr eight) e = absurd (omega (arith, eight, e))
+  not_cut (inr (inl three)) e = absurd (omega (arith, three, e))
+  not_cut (inr (inr eight)) e = absurd (omega (arith, eight, e))
 
   its : (n : NamesNoFault result) → NamesNoFault (status_of ended)
   its n = subst NamesNoFault (by_status (not_cut n)) n
@@ -144,7 +208,7 @@ module _ (a : Answer) (after : Files) (ended : Result Done Stop) (result : ℕ) 
   pub answer_text : NamesNoFault result → text_of ended ≡ a.text
   answer_text n = told_text a after ended is (its n)
 
-  pub answer_left : NamesNoFault result ⊎ (result ≡ 7) → AreLeft a after
+  pub answer_left : NamesNoFault result ⊎ (result ≡ 7) → after ≡ a.left
   answer_left (inl n) = told_left a after ended is (its n)
   answer_left (inr e) = told_left a after ended is (ok_told a after ended (cut e))
 

@@ -3,6 +3,8 @@ use Rattle.std.specs.Prelude.{codes, decimal, is_some}
 use Rattle.std.specs.Option.{option_map}
 use Rattle.std.proofs.Common.{◌≡◌, ℕ, ◌+◌, ◌++◌, ◌||◌, Bool, true, false, List, length, Option, None, Some, refl, sym, ap, ◌∙◌, append_assoc, append-nil}
 use Rattle.std.specs.FinMap as map
+use Rattle.rw_base.specs.declared.place.Cause.{Cause}
+use Rattle.rw_base.specs.declared.place.Place.{Place}
 use Rattle.rw_base.specs.declared.place.Refused.{Refused}
 use Rattle.rw_base.specs.declared.reading.Reading.{Reading}
 use Rattle.rw_base.specs.declared.reading.Reading.TheVariants as reading
@@ -72,12 +74,12 @@ more : (old xs ys c : List ℕ) → ys ≡ old ++ xs → ys ++ c ≡ old ++ (xs 
 more old xs ys c e = ap (λ y. y ++ c) e ∙ append_assoc old xs c
 
 -- the pieces of a line behind a text
-pub joined : (old path : List ℕ) (r : Refused)
-    → old ++ codes "refused " ++ path ++ codes " " ++ decimal r.place.line ++ codes ":" ++ decimal r.place.column ++ codes " " ++ name_of r.cause ++ codes "\n" ≡ old ++ refused_line path r
+pub joined : (old path : List ℕ) (place : Place) (cause : Cause)
+    → old ++ codes "refused " ++ path ++ codes " " ++ decimal place.line ++ codes ":" ++ decimal place.column ++ codes " " ++ name_of cause ++ codes "\n" ≡ old ++ refused_line path (record { place = place; cause = cause })
 unfolding refused_line
-joined old path r =
-    more old _ _ (codes "\n") (more old _ _ (name_of r.cause) (more old _ _ (codes " ") (more old _ _ (decimal r.place.column) (more old _ _ (codes ":")
-    (more old _ _ (decimal r.place.line) (more old _ _ (codes " ") (more old (codes "refused ") _ path refl)))))))
+joined old path place cause =
+    more old _ _ (codes "\n") (more old _ _ (name_of cause) (more old _ _ (codes " ") (more old _ _ (decimal place.column) (more old _ _ (codes ":")
+    (more old _ _ (decimal place.line) (more old _ _ (codes " ") (more old (codes "refused ") _ path refl)))))))
 
 module _ (files : Files) (path : List ℕ) (read : Reads) (bytes : List ℕ) (refusal : Option Refused) (is : is_read path ≡ true)
     (there : Some bytes ≡ option_map (first_bytes MOST_READ) (map.get files path)) (same : refusal ≡ refusal_in (read path (Some bytes))) where

@@ -31,7 +31,7 @@ module _ (files : Files) (path : List ℕ) (left left' : List (List ℕ)) (cut :
       let here : bytes_at files' path' ≡ bytes_at files path = ap (bytes_at files') ps ∙ ap (λ f. bytes_at f path) fs in
       omega (arith, e, h, more, here)
 
-no_items : {A : Type 0} (xs : List A) → length xs ≡ 0 → xs ≡ []
+pub no_items : {A : Type 0} (xs : List A) → length xs ≡ 0 → xs ≡ []
 no_items [] e = refl
 no_items (x ∷ xs) e = absurd (omega (arith, e))
 

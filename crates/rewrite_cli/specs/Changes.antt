@@ -1,62 +1,72 @@
--- What a run makes of a store's files, and the changes that it makes one after another.
-use Rattle.std.specs.Prelude.{◌≡◌, ℕ, ◌<◌, Bool, false, ◌||◌, List, [], ◌∷◌, ◌++◌, length, take, slice_index_or}
+-- What two states differ in, and files with such changes made.
+use Rattle.std.specs.Prelude.{◌≡◌, ℕ, ◌<◌, List, [], ◌∷◌, ◌++◌, length, take, map as map_list, slice_index_or}
 use Rattle.std.specs.Prelude.{Option, None, Some, ◌⊎◌, if◌then◌else◌}
-use Rattle.std.specs.Option.{option_map}
-use Rattle.std.specs.Str.{bytes_eq}
+use Rattle.std.specs.Ordering.{nat_cmp, match_ordering}
+use Rattle.std.specs.Cmp.Lexicographic.{slice_cmp}
 use Rattle.std.specs.FinMap as map
 use Rattle.rw_host.specs.Files.{Files, SameElsewhere}
-use Rattle.properties_tree.specs.declared.option.PropertiesChangePropertyKey.{PropertiesChangePropertyKey}
-use Rattle.rewrite_cli.specs.Renaming.{bytes_after, is_refused}
+use Rattle.kept_files.specs.States.{State}
+use Rattle.kept_files.specs.declared.file.KeptFile.{KeptFile}
+use Rattle.scheduler.specs.Runs.{same_bytes}
+use Rattle.rewrite_cli.specs.declared.changes.Change.{Change}
+use Rattle.rewrite_cli.specs.declared.changes.Change.TheVariants.{Created, Changed, Removed}
+use Rattle.rewrite_cli.specs.declared.changes.Entry.{Entry}
 
--- Each path has what the definition gives of the file that had it. So no path comes or goes.
-unfoldable pub AreRewritten : PropertiesChangePropertyKey → Files → Files → Type 0
-AreRewritten options before after =
-    (path : List ℕ) → map.get after path ≡ option_map (bytes_after options path) (map.get before path)
+-- ---- from a state to a later one, in the order of paths
 
--- whether the file at a path is refused, and whether one of those at these paths is
-unfoldable pub is_refused_at : PropertiesChangePropertyKey → List ℕ → Option (List ℕ) → Bool
-is_refused_at options path None = false
-is_refused_at options path (Some bytes) = is_refused options path bytes
+abbrev pub changed_to : KeptFile → KeptFile → List Change
+changed_to f g = if same_bytes f.bytes g.bytes then [] else Changed g ∷ []
 
-abbrev pub any_refused : PropertiesChangePropertyKey → Files → List (List ℕ) → Bool
-any_refused options files [] = false
-any_refused options files (path ∷ paths) =
-    is_refused_at options path (map.get files path) || any_refused options files paths
+-- What comes of the later files where f is the first of the earlier ones: a path that only the earlier ones have was
+-- removed, one that only the later ones have was created. `others` says what comes of those behind f.
+abbrev pub against : KeptFile → (State → List Change) → State → List Change
+against f others [] = Removed f ∷ others []
+against f others (g ∷ gs) = match_ordering (slice_cmp nat_cmp f.path g.path)
+    (Removed f ∷ others (g ∷ gs)) (changed_to f g ++ others gs) (Created g ∷ against f others gs)
 
--- whether a run refuses some file
-abbrev pub refuses_some : PropertiesChangePropertyKey → Files → Bool
-refuses_some options files = any_refused options files (map.keys files)
+unfoldable pub changes : State → State → List Change
+changes [] gs = map_list Created gs
+changes (f ∷ fs) gs = against f (changes fs) gs
 
--- ---- changes in the order of paths
+-- ---- what is written
 
--- A change is a path and the new bytes there. A file that keeps its bytes has none.
-abbrev pub PathChange : Type 0
-PathChange = List ℕ × List ℕ
+-- bytes to be put at a path, or none where the file goes
+abbrev pub put_at : List ℕ → Option (List ℕ) → List Entry
+put_at path None = []
+put_at path (Some bytes) = record { path = path; bytes = Some bytes } ∷ []
 
-unfoldable pub change_at : PropertiesChangePropertyKey → List ℕ → Option (List ℕ) → List PathChange
-change_at options path None = []
-change_at options path (Some bytes) =
-    if bytes_eq (bytes_after options path bytes) bytes then [] else (path, bytes_after options path bytes) ∷ []
+abbrev pub entry_of : Change → List Entry
+entry_of (Created f) = put_at f.path f.bytes
+entry_of (Changed f) = put_at f.path f.bytes
+entry_of (Removed f) = record { path = f.path; bytes = None } ∷ []
 
-abbrev pub changes_at : PropertiesChangePropertyKey → Files → List (List ℕ) → List PathChange
-changes_at options files [] = []
-changes_at options files (path ∷ paths) = change_at options path (map.get files path) ++ changes_at options files paths
+unfoldable pub entries_of : List Change → List Entry
+entries_of [] = []
+entries_of (c ∷ cs) = entry_of c ++ entries_of cs
 
--- the changes that a run makes, in the order of their paths
-abbrev pub changes_of : PropertiesChangePropertyKey → Files → List PathChange
-changes_of options files = changes_at options files (map.keys files)
+abbrev pub with_bytes : Files → List ℕ → Option (List ℕ) → Files
+with_bytes files path None = map.remove files path
+with_bytes files path (Some bytes) = map.insert files path bytes
 
--- the files with these put, the first of them first
-abbrev pub put_all : List PathChange → Files → Files
-put_all [] files = files
-put_all (change ∷ changes) files = put_all changes (map.insert files change.0 change.1)
+abbrev pub with_entry : Entry → Files → Files
+with_entry e files = with_bytes files e.path e.bytes
 
--- After so many of the changes, the next one failed: other paths are as after those before it.
-pub record StopsAt (changes : List PathChange) (before after : Files) (made : ℕ) : Type 0 where
-  pub some_left : made < length changes
-  pub others : SameElsewhere (slice_index_or changes made ([], [])).0 (put_all (take made changes) before) after
+-- the files with these entries, the first of them first
+unfoldable pub with_entries : List Entry → Files → Files
+with_entries [] files = files
+with_entries (e ∷ es) files = with_entries es (with_entry e files)
 
--- A run stopped among its changes: all were made, or the first ones, and only the path of the next may have another
+-- ---- a run that was stopped
+
+abbrev pub no_entry : Entry
+no_entry = record { path = []; bytes = None }
+
+-- After so many of the entries, the next one failed: other paths are as after those before it.
+pub record StopsAt (entries : List Entry) (before after : Files) (made : ℕ) : Type 0 where
+  pub some_left : made < length entries
+  pub others : SameElsewhere (slice_index_or entries made no_entry).path (with_entries (take made entries) before) after
+
+-- A run stopped among its entries: all were made, or the first ones, and only the path of the next may have another
 -- file than before.
-abbrev pub IsPart : List PathChange → Files → Files → Type 0
-IsPart changes before after = (after ≡ put_all changes before) ⊎ ((made : ℕ) × StopsAt changes before after made)
+abbrev pub IsPart : List Entry → Files → Files → Type 0
+IsPart entries before after = (after ≡ with_entries entries before) ⊎ ((made : ℕ) × StopsAt entries before after made)

@@ -1,10 +1,13 @@
 pub mod Words
+pub mod Asking
 pub mod Sources
 pub mod Limits
-pub mod Renaming
+pub mod Meanings
+pub mod Opening
+pub mod Running
 pub mod Changes
 pub mod Checking
+pub mod Report
 pub mod Answers
 pub mod Statuses
-pub mod Outcomes
-pub mod Pairs
+pub mod Ends

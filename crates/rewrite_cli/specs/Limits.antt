@@ -1,4 +1,4 @@
--- The limits of a repository.
+-- The limits of a repository, and of the states of a run.
 use Rattle.std.specs.Prelude.{ℕ, nat_lt, List, codes, Option, None, Some, if◌then◌else◌}
 use Rattle.std.specs.FinMap as map
 use Rattle.rw_host.specs.Files.{Files}
@@ -7,13 +7,9 @@ use Rattle.rewrite_cli.specs.declared.limits.Limit.TheVariants as limit
 use Rattle.rewrite_cli.specs.declared.limits.TheConstants.{MOST_PATHS, MOST_FILES, MOST_IN_ALL}
 use Rattle.rewrite_cli.specs.Sources.{count_read, bytes_read}
 
--- the limit of a run that a repository passes
-unfoldable pub limit_of_run : Files → Option Limit
-limit_of_run files = if nat_lt MOST_PATHS (map.len files) then Some limit.Paths else None
-
--- the limit of `check` that it passes: the first of these
-unfoldable pub limit_of_check : Files → Option Limit
-limit_of_check files =
+-- the limit that a repository passes: the first of these
+unfoldable pub limit_of : Files → Option Limit
+limit_of files =
     if nat_lt MOST_PATHS (map.len files) then Some limit.Paths
     else if nat_lt MOST_FILES (count_read (map.keys files)) then Some limit.Files
     else if nat_lt MOST_IN_ALL (bytes_read files (map.keys files)) then Some limit.Bytes
@@ -24,3 +20,4 @@ unfoldable pub limit_line : Limit → List ℕ
 limit_line limit.Paths = codes "limit: paths more than 100000\n"
 limit_line limit.Files = codes "limit: files more than 10000\n"
 limit_line limit.Bytes = codes "limit: bytes more than 67108864\n"
+limit_line limit.StepBytes = codes "limit: step bytes more than 134217728\n"

@@ -8,15 +8,20 @@ use Rattle.rewrite_cli.specs.declared.stop.Done.{Done}
 use Rattle.rewrite_cli.specs.declared.stop.Stop.{Stop}
 use Rattle.rewrite_cli.specs.declared.stop.Stop.TheVariants as stop
 use Rattle.rewrite_cli.specs.Limits.{limit_line}
-use Rattle.rewrite_cli.specs.Answers.{Answer, AreLeft, done, fault_line}
+use Rattle.rewrite_cli.specs.Changes.{changes, entries_of, IsPart}
+use Rattle.rewrite_cli.specs.Meanings.{Meanings}
+use Rattle.rewrite_cli.specs.Running.{Ends, ran, ended}
+use Rattle.rewrite_cli.specs.Words.{Command, apply}
+use Rattle.rewrite_cli.specs.Answers.{Answer, done, fault_line}
 
--- a status of the program: done, refused, usage, read fault, write fault, no memory, output fault, limit
+-- a status of the program: done, done with something told of a file, usage, recipe fault, read fault, write fault, no
+-- memory, output fault, limit
 abbrev pub IsStatus : ℕ → Type 0
-IsStatus n = n ≤ 2 ⊎ n ≡ 4 ⊎ n ≡ 5 ⊎ n ≡ 6 ⊎ n ≡ 7 ⊎ n ≡ 8
+IsStatus n = n ≤ 8
 
 -- a status that is the answer's: no fault came in between
 abbrev pub NamesNoFault : ℕ → Type 0
-NamesNoFault n = n ≤ 1 ⊎ n ≡ 8
+NamesNoFault n = n ≤ 1 ⊎ n ≡ 3 ⊎ n ≡ 8
 
 -- how a fault of `list`, `read` or `reserve` ends a command
 abbrev pub stop_of : StoreFault → Stop
@@ -25,7 +30,8 @@ stop_of fault.TooMany = stop.Limit limit.Paths
 stop_of fault.NoMemory = stop.NoMemory
 
 abbrev pub status_of : Result Done Stop → ℕ
-status_of (Ok d) = done d.any_refused
+status_of (Ok d) = done d.tells_of_files
+status_of (Err (stop.Recipe line)) = 3
 status_of (Err stop.ReadFault) = 4
 status_of (Err stop.WriteFault) = 5
 status_of (Err stop.NoMemory) = 6
@@ -33,13 +39,25 @@ status_of (Err (stop.Limit l)) = 8
 
 abbrev pub text_of : Result Done Stop → List ℕ
 text_of (Ok d) = d.text.items
+text_of (Err (stop.Recipe line)) = line
 text_of (Err stop.ReadFault) = fault_line 4
 text_of (Err stop.WriteFault) = fault_line 5
 text_of (Err stop.NoMemory) = fault_line 6
 text_of (Err (stop.Limit l)) = limit_line l
 
--- a command was done, or stopped by a limit, as its answer says
+-- a command was done, or stopped by a fault of its recipe or by a limit, as its answer says
 unfoldable pub IsAnswered : Answer → Result Done Stop → Files → Type 0
-IsAnswered a (Ok d) after = (done d.any_refused ≡ a.status) × ((d.text.items ≡ a.text) × AreLeft a after)
-IsAnswered a (Err (stop.Limit l)) after = (8 ≡ a.status) × ((limit_line l ≡ a.text) × AreLeft a after)
+IsAnswered a (Ok d) after = (done d.tells_of_files ≡ a.status) × ((d.text.items ≡ a.text) × (after ≡ a.left))
+IsAnswered a (Err (stop.Recipe line)) after = (3 ≡ a.status) × ((line ≡ a.text) × (after ≡ a.left))
+IsAnswered a (Err (stop.Limit l)) after = (8 ≡ a.status) × ((limit_line l ≡ a.text) × (after ≡ a.left))
 IsAnswered a (Err _) after = Unit {0}
+
+-- a run was stopped among its changes
+unfoldable pub IsStopped : Ends → Files → Files → Type 0
+IsStopped (ran r) before after = IsPart (entries_of (changes r.first r.last)) before after
+IsStopped _ before after = ⊥
+
+-- `run` was stopped among its changes; other commands write nothing
+unfoldable pub IsCommandStopped : Meanings → Files → Command → Files → Type 0
+IsCommandStopped meanings before (apply asked) after = IsStopped (ended meanings before asked) before after
+IsCommandStopped meanings before _ after = ⊥

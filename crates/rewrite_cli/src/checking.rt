@@ -1,21 +1,24 @@
 // What `check` tells of a repository.
-ghost use Rattle.std.specs.Prelude.{◌≡◌, ◌≢◌, ◌≤◌, ◌<◌, ◌+◌, ◌++◌, ◌||◌, IsTrue, IfOk, OnOk, Err, Some};
+ghost use Rattle.std.specs.Prelude.{◌≡◌, ◌≤◌, ◌<◌, ◌+◌, ◌++◌, ◌||◌, IsTrue, IfOk, IfErr, OnOk, Err, Some};
 ghost use Rattle.std.specs.Prelude.{is_some, decimal};
+ghost use Rattle.std.specs.FinMap as map;
 ghost use Rattle.rw_host.specs.Files.{Rose};
 ghost use Rattle.kept_files.specs.Readings.{AreReadings, Reads};
-ghost use Rattle.rewrite_cli.specs.Sources.{bytes_at, bytes_read};
-ghost use Rattle.rewrite_cli.specs.Checking.{any_refused, count_line, line_of, lines, name_of, refusal_at, refusal_in};
-ghost use Rattle.rewrite_cli.specs.Checking.{refused_line};
+ghost use Rattle.rewrite_cli.specs.Sources.{bytes_at, bytes_read, count_read};
+ghost use Rattle.rewrite_cli.specs.Checking.{any_refused, count_line, line_of, lines, refusal_at, refusal_in};
+ghost use Rattle.rewrite_cli.specs.declared.limits.TheConstants.{MOST_FILES, MOST_PATHS};
+ghost use Rattle.rewrite_cli.specs.Ends.{IsReadStop};
+ghost use Rattle.rewrite_cli.specs.Meanings.{AreMeanings, Meanings};
 ghost use Rattle.rewrite_cli.specs.Answers.{answer};
 ghost use Rattle.rewrite_cli.specs.Statuses.{IsAnswered};
 ghost use Rattle.rewrite_cli.specs.Words.{check};
 
-use crate::limits::{Limit, MOST_FILES, MOST_IN_ALL, MOST_PATHS};
-use crate::sources::{MOST_READ, count_read, is_read};
+use crate::limits::{Limit, MOST_IN_ALL};
+use crate::sources::{MOST_READ, count_read, is_read, list_paths};
 use crate::stop::{Done, Stop};
-use itoa::Buffer;
+use crate::text::{put_number, put_refusal};
 use kept_files::Readers;
-use rw_base::{Cause, Mem, Reading, Refused};
+use rw_base::{Mem, Reading, Refused};
 use rw_host::{PathText, Steps, Store};
 use std::alloc::Global;
 use std::marker::Brand;
@@ -29,27 +32,6 @@ struct Findings {
     bytes: u64,
 }
 
-fn name_of(cause: Cause) -> &'static [u8]
-    ensures { result.now ≡ name_of cause }
-{
-    match cause {
-        Cause::NotUtf8 => b"NotUtf8",
-        Cause::BadLeaf => b"BadLeaf",
-        Cause::Unexpected => b"Unexpected",
-        Cause::Unfinished => b"Unfinished",
-        Cause::TooLarge => b"TooLarge",
-        Cause::TooDeep => b"TooDeep",
-    }
-}
-
-fn put_number(text: &mut Vec<u8>, number: u64) -> Mem<()>
-    ensures { OnOk result (text.new.items ≡ text.old.items ++ decimal number) }
-{
-    let mut buffer = Buffer::new();
-    text.extend_from_slice(buffer.format(number).as_bytes())?;
-    Ok(())
-}
-
 // The line of the number of files that are read.
 #[tactic(auto, unfolding(crate::specs::Checking::count_line))]
 fn count_line(alloc: Global, count: usize) -> Mem<Vec<u8>>
@@ -59,23 +41,6 @@ fn count_line(alloc: Global, count: usize) -> Mem<Vec<u8>>
     put_number(&mut line, count as u64)?;
     line.extend_from_slice(b"\n")?;
     Ok(line)
-}
-
-// Appends the line of a file that is refused.
-#[tactic(auto, using(crate::proofs::FoundInFile::joined))]
-fn put_refusal(text: &mut Vec<u8>, path: &str, refused: &Refused) -> Mem<()>
-    ensures { OnOk result (text.new.items ≡ text.old.items ++ refused_line path.now refused.now) }
-{
-    text.extend_from_slice(b"refused ")?;
-    text.extend_from_slice(path.as_bytes())?;
-    text.extend_from_slice(b" ")?;
-    put_number(text, refused.place.line as u64)?;
-    text.extend_from_slice(b":")?;
-    put_number(text, refused.place.column as u64)?;
-    text.extend_from_slice(b" ")?;
-    text.extend_from_slice(name_of(refused.cause))?;
-    text.extend_from_slice(b"\n")?;
-    Ok(())
 }
 
 // Why a file is refused, if it is, by what it reads as.
@@ -110,14 +75,14 @@ fn note_refusal(findings: &mut Findings, path: &str, refusal: Option<Refused>) -
     ensures bytes { findings.new.bytes ≡ findings.old.bytes }
 {
     if let Some(refused) = refusal {
-        put_refusal(&mut findings.text, path, &refused)?;
+        put_refusal(&mut findings.text, path, refused.place, refused.cause)?;
         findings.any_refused = true;
     }
     Ok(())
 }
 
 // Reads the file at a path, where it is one that is read, and notes whether it is refused.
-#[tactic(auto, using(crate::proofs::FoundInFile::found_there))]
+#[tactic(auto, using(crate::proofs::FoundInFile::found_there, crate::proofs::SourceSteps::read_stops))]
 fn check_file<S: Store, L: Ledger>(
     alloc: Global,
     store: &mut S,
@@ -140,7 +105,7 @@ fn check_file<S: Store, L: Ledger>(
         (limit ≡ Limit.Bytes) × (MOST_IN_ALL < findings.old.bytes + bytes_at (S.files store.old) path.now) }
     ensures files { S.files store.new ≡ S.files store.old }
     ensures cause { result ≡ Err Stop.ReadFault → Rose (S.read_faults store.old) (S.read_faults store.new) }
-    ensures never_writes { result ≢ Err Stop.WriteFault }
+    ensures stop { IfErr result IsReadStop }
     ensures count { S.read_faults store.old ≤ S.read_faults store.new }
 {
     if !is_read(path) {
@@ -160,6 +125,7 @@ fn check_file<S: Store, L: Ledger>(
 }
 
 // Reads the files at these paths and notes which are refused.
+#[tactic(auto, using(crate::proofs::SourceSteps::read_stops))]
 fn check_files<S: Store, L: Ledger>(
     alloc: Global,
     store: &mut S,
@@ -180,7 +146,7 @@ fn check_files<S: Store, L: Ledger>(
         (limit ≡ Limit.Bytes) × (MOST_IN_ALL < bytes_read (S.files store.old) paths.items) }
     ensures files { S.files store.new ≡ S.files store.old }
     ensures cause { result ≡ Err Stop.ReadFault → Rose (S.read_faults store.old) (S.read_faults store.new) }
-    ensures never_writes { result ≢ Err Stop.WriteFault }
+    ensures stop { IfErr result IsReadStop }
     ensures count { S.read_faults store.old ≤ S.read_faults store.new }
 {
     let readers = Readers::new(alloc)?;
@@ -191,28 +157,44 @@ fn check_files<S: Store, L: Ledger>(
     Ok(())
 }
 
-/// Reads each file that has a reader, and tells how many there are and which of them are refused.
-#[tactic(auto, using(crate::proofs::Answering::answered))]
-pub fn check_repository<S: Store>(alloc: Global, store: &mut S) -> Result<Done, Stop>
-    ensures answer { IsTrue S.tells_files → (read : Reads) → AreReadings read →
-        IsAnswered (answer read (S.files store.old) check) result (S.files store.new) }
+// Reads the files of a store that has these paths, few enough, and tells which of them are refused.
+#[tactic(auto, using(crate::proofs::Answering::answered, crate::proofs::SourceSteps::all_found, crate::proofs::SourceSteps::read_stops))]
+fn check_listed<S: Store>(alloc: Global, store: &mut S, paths: Vec<PathText>) -> Result<Done, Stop>
+    requires listed { IsTrue S.tells_files → paths.items ≡ map.keys (S.files store.old) }
+    requires few_paths { IsTrue S.tells_files → map.len (S.files store.old) ≤ MOST_PATHS }
+    requires few_files { IsTrue S.tells_files → count_read (map.keys (S.files store.old)) ≤ MOST_FILES }
+    ensures answer { IsTrue S.tells_files → (meanings : Meanings) → AreMeanings meanings →
+        IsAnswered (answer meanings (S.files store.old) check) result (S.files store.new) }
     ensures files { S.files store.new ≡ S.files store.old }
     ensures cause { result ≡ Err Stop.ReadFault → Rose (S.read_faults store.old) (S.read_faults store.new) }
-    ensures never_writes { result ≢ Err Stop.WriteFault }
+    ensures stop { IfErr result IsReadStop }
 {
-    let paths = store.list(alloc, MOST_PATHS)?;
     let count = count_read(&paths);
-    if count > MOST_FILES {
-        return Err(Stop::Limit(Limit::Files));
-    }
     let mut findings = Findings {
         text: count_line(alloc, count)?,
         any_refused: false,
         bytes: 0,
     };
-    check_files::<S, Brand>(alloc, store, &mut findings, paths, Blank::new(1))?;
-    Ok(Done {
-        text: findings.text,
-        any_refused: findings.any_refused,
-    })
+    match check_files::<S, Brand>(alloc, store, &mut findings, paths, Blank::new(1)) {
+        Ok(()) => Ok(Done {
+            text: findings.text,
+            tells_of_files: findings.any_refused,
+        }),
+        Err(stop) => Err(stop),
+    }
+}
+
+/// Reads each file that has a reader, and tells how many there are and which of them are refused.
+#[tactic(auto, using(crate::proofs::Answering::answered))]
+pub fn check_repository<S: Store>(alloc: Global, store: &mut S) -> Result<Done, Stop>
+    ensures answer { IsTrue S.tells_files → (meanings : Meanings) → AreMeanings meanings →
+        IsAnswered (answer meanings (S.files store.old) check) result (S.files store.new) }
+    ensures files { S.files store.new ≡ S.files store.old }
+    ensures cause { result ≡ Err Stop.ReadFault → Rose (S.read_faults store.old) (S.read_faults store.new) }
+    ensures stop { IfErr result IsReadStop }
+{
+    match list_paths(alloc, store) {
+        Ok(paths) => check_listed(alloc, store, paths),
+        Err(stop) => Err(stop),
+    }
 }

@@ -1,4 +1,4 @@
-// The limits of a repository.
+// The limits of a repository, and of the states of a run.
 ghost use Rattle.std.specs.Prelude.{◌≡◌};
 ghost use Rattle.rewrite_cli.specs.Limits.{limit_line};
 
@@ -17,6 +17,8 @@ pub enum Limit {
     Paths,
     Files,
     Bytes,
+    /// Bytes of all files after a step.
+    StepBytes,
 }
 
 impl Limit {
@@ -29,6 +31,7 @@ impl Limit {
             Limit::Paths => b"limit: paths more than 100000\n",
             Limit::Files => b"limit: files more than 10000\n",
             Limit::Bytes => b"limit: bytes more than 67108864\n",
+            Limit::StepBytes => b"limit: step bytes more than 134217728\n",
         }
     }
 }

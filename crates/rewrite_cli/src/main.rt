@@ -1,33 +1,38 @@
-//! The program: renames a key in the properties files of the current folder, or tells which files aren't read.
+//! The program: applies the recipes of a `rewrite.yml` to the files of the current folder, or tells which files aren't
+//! read.
 //!
 //! ```text
-//! rewrite run org.openrewrite.properties.ChangePropertyKey shop.mail.host shop.mail.server
+//! rewrite run --recipe shop.Upgrade
+//! rewrite dry --recipe shop.Upgrade
 //! rewrite check
 //! ```
 //!
 //! `main` hands the words, the real folder and standard output to the call `rewrite`, which is written for any store
 //! and sink and answers the exit status. What a command answers over a repository is one definition, `answer`: the
-//! status, the text and what each path then has. Where no fault comes in between, the status is that of the answer
-//! (`rewrite`, clause `status`), each path has what the answer leaves (`files`), and its text was put (`text`). 2 comes
-//! exactly where the words are others (`usage`). 4, 5 and 7 come only where a count of faults rose (`read_fault`,
+//! status, the text and the files that are left. Where no fault comes in between, the status is that of the answer
+//! (`rewrite`, clause `status`), the files are those that it leaves (`files`), and its text was put (`text`, `line`). 2
+//! comes exactly where the words are others (`usage`). 4, 5 and 7 come only where a count of faults rose (`read_fault`,
 //! `write_fault`, `sink_fault`); at 4 and 6 no file has changed (`unchanged`), and at 5 the first changes, in the order
-//! of their paths, were made (`part`).
+//! of their paths, were made (`part`). No clause speaks of workers.
 //!
 //! Definitions, in this order: `Words` (what the words ask for), `Sources` and `Limits` (which files are read, and how
-//! many there may be), `Renaming` and `Changes` (a run, and one that was stopped), `Checking` (the text of `check`),
-//! `Answers`, `Statuses`. `Outcomes` and `Pairs` serve private functions alone.
+//! many there may be), `Meanings` and `Opening` (the state and the plan that a run begins with), `Running` (how a
+//! recipe ends over a repository, by the scheduler's `run`), `Changes` (what is written), `Report` and `Checking` (the
+//! texts), `Answers`, `Statuses`. `Asking` and `Ends` serve private functions alone.
 #![tactic(auto)]
 
 mod changes;
 mod checking;
 mod limits;
-mod renaming;
+mod planning;
+mod report;
 mod rewrite;
 mod running;
 mod sources;
 mod stop;
 #[cfg(test)]
 mod tests;
+mod text;
 mod words;
 
 use crate::rewrite::rewrite;

@@ -1,13 +1,28 @@
-// Which files are read.
-ghost use Rattle.std.specs.Prelude.{◌≡◌};
-ghost use Rattle.rewrite_cli.specs.Sources.{count_read, is_read};
+// The source files of a repository.
+ghost use Rattle.std.specs.Prelude.{◌≡◌, ◌≤◌, ◌<◌, ◌+◌, ◌++◌, ◌∷◌, ℕ, List, None, Some, false, IsTrue, IfOk, IfErr, OnOk, Err};
+ghost use Rattle.std.specs.FinMap as map;
+ghost use Rattle.rw_host.specs.Files.{Files, IsInOrder, Rose};
+ghost use Rattle.j_repair.specs.Changes.{paths_of};
+ghost use Rattle.rewrite_cli.specs.Sources.{bytes_at, bytes_read, count_read, is_read, source_at, sources_at, sources_of};
+ghost use Rattle.rewrite_cli.specs.Limits.{limit_of};
+ghost use Rattle.rewrite_cli.specs.Ends.{IsReadStop};
 
-use kept_files::{FileKind, kind_of};
-use rw_base::MOST_BYTES;
-use rw_host::PathText;
+use crate::limits::{Limit, MOST_FILES, MOST_IN_ALL, MOST_PATHS};
+use crate::stop::Stop;
+use kept_files::{FileKind, is_source, kind_of};
+use rw_base::{MOST_BYTES, Mem, Text};
+use rw_host::{PathText, SourceFile, Store};
+use std::alloc::Global;
 
 /// One byte more than a file may have, so that a file that is too large is seen to be.
 pub const MOST_READ: u32 = MOST_BYTES as u32 + 1;
+
+// The source files that were found so far, and how many bytes were read.
+#[derive(Drop)]
+struct Found {
+    files: Vec<SourceFile>,
+    bytes: u64,
+}
 
 /// Whether the file at a path is read.
 #[tactic(auto, unfolding(crate::specs::Sources::is_read))]
@@ -31,4 +46,140 @@ pub fn count_read(paths: &[PathText]) -> usize
         }
     }
     count
+}
+
+// Puts a source file that isn't read behind the others.
+#[tactic(auto, using(crate::proofs::SourceSteps::found_at))]
+fn push_unread(found: &mut Found, path: PathText) -> Mem<()>
+    requires { is_read path ≡ false }
+    ensures files { (files : Files) → OnOk result (
+        found.new.files.items ≡ found.old.files.items ++ source_at files path) }
+    ensures in_order { (others : List (List ℕ)) →
+        IsInOrder (paths_of found.old.files.items ++ path ∷ others) →
+        OnOk result (IsInOrder (paths_of found.new.files.items ++ others)) }
+    ensures bytes { found.new.bytes ≡ found.old.bytes }
+{
+    if is_source(path.as_str()) {
+        found.files.push(SourceFile { path, bytes: None })?;
+    }
+    Ok(())
+}
+
+// Reads the file at a path, where it is a source file that is read, and puts it behind the others.
+#[tactic(auto, using(crate::proofs::SourceSteps::found_at, crate::proofs::FoundInFile::found_there))]
+fn find_file<S: Store>(
+    alloc: Global,
+    store: &mut S,
+    found: &mut Found,
+    path: PathText,
+) -> Result<(), Stop>
+    requires { found.old.bytes ≤ MOST_IN_ALL }
+    ensures files { IsTrue S.tells_files → OnOk result (
+        found.new.files.items ≡ found.old.files.items ++ source_at (S.files store.old) path) }
+    ensures in_order { (others : List (List ℕ)) →
+        IsInOrder (paths_of found.old.files.items ++ path ∷ others) →
+        OnOk result (IsInOrder (paths_of found.new.files.items ++ others)) }
+    ensures bytes { IsTrue S.tells_files → OnOk result (
+        found.new.bytes ≡ found.old.bytes + bytes_at (S.files store.old) path) }
+    ensures in_limit { OnOk result (found.new.bytes ≤ MOST_IN_ALL) }
+    ensures past_limit { IsTrue S.tells_files → (limit : Limit) → result ≡ Err (Stop.Limit limit) →
+        (limit ≡ Limit.Bytes) × (MOST_IN_ALL < found.old.bytes + bytes_at (S.files store.old) path) }
+    ensures store_files { S.files store.new ≡ S.files store.old }
+    ensures cause { result ≡ Err Stop.ReadFault → Rose (S.read_faults store.old) (S.read_faults store.new) }
+    ensures stop { IfErr result IsReadStop }
+    ensures count { S.read_faults store.old ≤ S.read_faults store.new }
+    ensures other_count { S.write_faults store.new ≡ S.write_faults store.old }
+{
+    if !is_read(path.as_str()) {
+        push_unread(found, path)?;
+        return Ok(());
+    }
+    let Some(bytes) = store.read(alloc, path.as_str(), MOST_READ)? else {
+        return Ok(());
+    };
+    let all = found.bytes + bytes.len() as u64;
+    if all > MOST_IN_ALL {
+        return Err(Stop::Limit(Limit::Bytes));
+    }
+    let bytes = Some(Text::from_vec(bytes));
+    found.files.push(SourceFile { path, bytes })?;
+    found.bytes = all;
+    Ok(())
+}
+
+// Reads the source files at these paths.
+fn find_files<S: Store>(
+    alloc: Global,
+    store: &mut S,
+    paths: Vec<PathText>,
+) -> Result<Vec<SourceFile>, Stop>
+    requires { IsInOrder paths.items }
+    ensures files { IsTrue S.tells_files → IfOk result (λ files.
+        files.items ≡ sources_at (S.files store.old) paths.items) }
+    ensures in_order { IfOk result (λ files. IsInOrder (paths_of files.items)) }
+    ensures in_limit { IsTrue S.tells_files → OnOk result (bytes_read (S.files store.old) paths.items ≤ MOST_IN_ALL) }
+    ensures past_limit { IsTrue S.tells_files → (limit : Limit) → result ≡ Err (Stop.Limit limit) →
+        (limit ≡ Limit.Bytes) × (MOST_IN_ALL < bytes_read (S.files store.old) paths.items) }
+    ensures store_files { S.files store.new ≡ S.files store.old }
+    ensures cause { result ≡ Err Stop.ReadFault → Rose (S.read_faults store.old) (S.read_faults store.new) }
+    ensures stop { IfErr result IsReadStop }
+    ensures count { S.read_faults store.old ≤ S.read_faults store.new }
+    ensures other_count { S.write_faults store.new ≡ S.write_faults store.old }
+{
+    let mut found = Found {
+        files: Vec::new(alloc),
+        bytes: 0,
+    };
+    for path in paths {
+        find_file(alloc, store, &mut found, path)?;
+    }
+    Ok(found.files)
+}
+
+/// All paths of a store, where it has few enough, and few enough of them are those of files that are read.
+#[tactic(auto, using(crate::proofs::SourceSteps::all_listed))]
+pub fn list_paths<S: Store>(alloc: Global, store: &mut S) -> Result<Vec<PathText>, Stop>
+    ensures paths { IsTrue S.tells_files → IfOk result (λ paths. paths.items ≡ map.keys (S.files store.old)) }
+    ensures in_order { IfOk result (λ paths. IsInOrder paths.items) }
+    ensures few_paths { IsTrue S.tells_files → OnOk result (map.len (S.files store.old) ≤ MOST_PATHS) }
+    ensures few_files { IsTrue S.tells_files →
+        OnOk result (count_read (map.keys (S.files store.old)) ≤ MOST_FILES) }
+    ensures past_limit { IsTrue S.tells_files → (limit : Limit) → result ≡ Err (Stop.Limit limit) →
+        limit_of (S.files store.old) ≡ Some limit }
+    ensures store_files { S.files store.new ≡ S.files store.old }
+    ensures cause { result ≡ Err Stop.ReadFault → Rose (S.read_faults store.old) (S.read_faults store.new) }
+    ensures stop { IfErr result IsReadStop }
+    ensures count { S.read_faults store.old ≤ S.read_faults store.new }
+    ensures other_count { S.write_faults store.new ≡ S.write_faults store.old }
+{
+    match store.list(alloc, MOST_PATHS) {
+        Ok(paths) => {
+            if count_read(&paths) > MOST_FILES {
+                return Err(Stop::Limit(Limit::Files));
+            }
+            Ok(paths)
+        }
+        Err(fault) => Err(Stop::from(fault)),
+    }
+}
+
+/// The source files of a store, each with the bytes that are read of it.
+#[tactic(auto, using(crate::proofs::SourceSteps::all_found))]
+pub fn source_files<S: Store>(alloc: Global, store: &mut S) -> Result<Vec<SourceFile>, Stop>
+    ensures files { IsTrue S.tells_files → IfOk result (λ files. files.items ≡ sources_of (S.files store.old)) }
+    ensures in_order { IfOk result (λ files. IsInOrder (paths_of files.items)) }
+    ensures in_limits { IsTrue S.tells_files → OnOk result (limit_of (S.files store.old) ≡ None) }
+    ensures past_limit { IsTrue S.tells_files → (limit : Limit) → result ≡ Err (Stop.Limit limit) →
+        limit_of (S.files store.old) ≡ Some limit }
+    ensures store_files { S.files store.new ≡ S.files store.old }
+    ensures cause { result ≡ Err Stop.ReadFault → Rose (S.read_faults store.old) (S.read_faults store.new) }
+    ensures stop { IfErr result IsReadStop }
+    ensures count { S.read_faults store.old ≤ S.read_faults store.new }
+    ensures other_count { S.write_faults store.new ≡ S.write_faults store.old }
+{
+    let paths = list_paths(alloc, store)?;
+    match find_files(alloc, store, paths) {
+        Ok(files) => Ok(files),
+        Err(stop) => Err(stop),
+    }
 }

@@ -3,18 +3,21 @@ ghost use Rattle.std.specs.Prelude.{◌≡◌, Ok, Err};
 ghost use Rattle.rewrite_cli.specs.Statuses.{status_of, text_of};
 
 use crate::limits::Limit;
-use rw_base::NoMemory;
+use rw_base::{NoMemory, Text};
 use rw_host::{Failed, StoreFault};
 use std::alloc::{AllocError, AllocFailed};
 
-/// Done, and no file was refused.
+/// Done, and nothing is told of a file.
 pub const DONE: u8 = 0;
 
-/// Done, but some file was refused.
-pub const REFUSED: u8 = 1;
+/// Done, but some file is refused, or some edit was dropped.
+pub const DONE_BUT: u8 = 1;
 
 /// The words aren't those of a command.
 pub const USAGE: u8 = 2;
+
+/// The recipe file or the plan has a fault.
+pub const RECIPE_FAULT: u8 = 3;
 
 /// The store failed to list or read.
 pub const READ_FAULT: u8 = 4;
@@ -36,16 +39,18 @@ pub const USAGE_LINE: &[u8] =
     b"usage: rewrite run|dry|types --recipe NAME [--workers N] [--cycles N] | check [--workers N] | \
 recover | history | gen N\n";
 
-/// What a command that was done tells.
+/// What a command that was done tells, and whether that is of a file that is refused or keeps its bytes.
 #[derive(Drop)]
 pub struct Done {
     pub text: Vec<u8>,
-    pub any_refused: bool,
+    pub tells_of_files: bool,
 }
 
 /// Why a command ended before it was done.
-#[derive(Clone, Copy, Debug, PartialEq, Eq)]
+#[derive(Drop)]
 pub enum Stop {
+    /// The recipe file or the plan has a fault, of which this line tells.
+    Recipe(Text),
     ReadFault,
     WriteFault,
     NoMemory,
@@ -56,15 +61,16 @@ impl Done {
     pub fn status(&self) -> u8
         ensures { result ≡ status_of (Ok self.now) }
     {
-        if self.any_refused { REFUSED } else { DONE }
+        if self.tells_of_files { DONE_BUT } else { DONE }
     }
 }
 
 impl Stop {
-    pub fn status(self) -> u8
-        ensures { result ≡ status_of (Err self) }
+    pub fn status(&self) -> u8
+        ensures { result ≡ status_of (Err self.now) }
     {
         match self {
+            Stop::Recipe(_) => RECIPE_FAULT,
             Stop::ReadFault => READ_FAULT,
             Stop::WriteFault => WRITE_FAULT,
             Stop::NoMemory => NO_MEMORY,
@@ -73,10 +79,11 @@ impl Stop {
     }
 
     /// What is told of it.
-    pub fn line(self) -> &'static [u8]
-        ensures { result.now ≡ text_of (Err self) }
+    pub fn line(&self) -> &[u8]
+        ensures { result.now ≡ text_of (Err self.now) }
     {
         match self {
+            Stop::Recipe(line) => line.as_slice(),
             Stop::ReadFault => b"read fault\n",
             Stop::WriteFault => b"write fault\n",
             Stop::NoMemory => b"",

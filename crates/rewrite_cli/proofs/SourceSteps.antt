@@ -1,0 +1,155 @@
+-- The source files of a repository, found one after another.
+use Rattle.std.proofs.Common.{◌≡◌, ℕ, ◌<◌, ◌≤◌, ◌+◌, ◌++◌, Bool, true, false, List, [], ◌∷◌, length, map as map_list, Option, None, Some, refl, sym, ap, subst, ◌∙◌, append_assoc, append-nil, arith}
+use Rattle.std.specs.Option.{option_map}
+use Rattle.std.specs.FinMap as map
+use Rattle.std.specs.List.{AllByRecursion}
+use Rattle.std.specs.List.Sorted.{IsStrictlySortedBy}
+use Rattle.std.proofs.lemmas.Bool.{le-ltb, lt-ltb}
+use Rattle.std.proofs.lemmas.List.{map-append}
+use Rattle.rw_host.specs.Files.{Files, IsInOrder, first_bytes}
+use Rattle.rw_host.specs.declared.file.SourceFile.{SourceFile}
+use Rattle.kept_files.specs.Kinds.{is_source}
+use Rattle.j_repair.specs.Changes.{paths_of}
+use Rattle.rewrite_cli.specs.declared.limits.Limit.{Limit}
+use Rattle.rewrite_cli.specs.declared.limits.Limit.TheVariants as limit
+use Rattle.rewrite_cli.specs.declared.limits.TheConstants.{MOST_PATHS, MOST_FILES, MOST_IN_ALL}
+use Rattle.rewrite_cli.specs.declared.sources.TheConstants.{MOST_READ}
+use Rattle.rewrite_cli.specs.declared.stop.Stop.{Stop}
+use Rattle.rewrite_cli.specs.declared.stop.Stop.TheVariants as stop
+use Rattle.rw_host.specs.declared.fault.StoreFault.{StoreFault}
+use Rattle.rw_host.specs.declared.fault.StoreFault.TheVariants as fault
+use Rattle.rewrite_cli.specs.Ends.{IsReadStop}
+use Rattle.rewrite_cli.specs.Statuses.{stop_of}
+use Rattle.rewrite_cli.specs.Limits.{limit_of}
+use Rattle.rewrite_cli.specs.Sources.{is_read, count_read, bytes_read, source_at, sources_at, sources_of, with_bytes}
+
+-- ---- what is found at a path
+
+module _ (files : Files) (path : List ℕ) where
+  none_at : source_at files path ≡ [] → (old : List SourceFile) → old ≡ old ++ source_at files path
+  none_at e old = sym (ap (λ s. old ++ s) e ∙ append-nil old)
+
+  pub other_at : (old : List SourceFile) → is_read path ≡ false → is_source path ≡ false → old ≡ old ++ source_at files path
+  unfolding source_at
+  other_at old r s = none_at (rw (r, s) refl) old
+
+  pub unread_at : (old : List SourceFile) → is_read path ≡ false → is_source path ≡ true → old ++ record { path = path; bytes = None } ∷ [] ≡ old ++ source_at files path
+  unfolding source_at
+  unread_at old r s = rw (r, s) refl
+
+  absent_file : (f : Option (List ℕ)) → None ≡ option_map (first_bytes MOST_READ) f → with_bytes path f ≡ []
+  absent_file None e = refl
+  absent_file (Some b) e = absurd (cc)
+
+  pub absent_at : (old : List SourceFile) → is_read path ≡ true → None ≡ option_map (first_bytes MOST_READ) (map.get files path) → old ≡ old ++ source_at files path
+  unfolding source_at
+  absent_at old r e = none_at (rw r (absent_file (map.get files path) e)) old
+
+  there_file : (f : Option (List ℕ)) (bytes : List ℕ) → Some bytes ≡ option_map (first_bytes MOST_READ) f → record { path = path; bytes = Some bytes } ∷ [] ≡ with_bytes path f
+  there_file None bytes e = absurd (cc)
+  there_file (Some b) bytes e = cc
+
+  pub there_at : (old : List SourceFile) (bytes : List ℕ) → is_read path ≡ true → Some bytes ≡ option_map (first_bytes MOST_READ) (map.get files path)
+      → old ++ record { path = path; bytes = Some bytes } ∷ [] ≡ old ++ source_at files path
+  unfolding source_at
+  there_at old bytes r e = rw r (ap (λ s. old ++ s) (there_file (map.get files path) bytes e))
+
+-- ---- the order of paths
+
+all_without : (P : List ℕ → Type 0) (xs ys : List (List ℕ)) (x : List ℕ) → AllByRecursion P (xs ++ x ∷ ys) → AllByRecursion P (xs ++ ys)
+all_without P [] ys x a = a.1
+all_without P (z ∷ xs) ys x a = (a.0, all_without P xs ys x a.1)
+
+pub order_without : (xs ys : List (List ℕ)) (x : List ℕ) → IsInOrder (xs ++ x ∷ ys) → IsInOrder (xs ++ ys)
+unfolding IsStrictlySortedBy
+order_without [] ys x s = s.1
+order_without (z ∷ xs) ys x s = (all_without _ xs ys x s.0, order_without xs ys x s.1)
+
+pub order_with : (old : List SourceFile) (s : SourceFile) (others : List (List ℕ)) → IsInOrder (paths_of old ++ s.path ∷ others) → IsInOrder (paths_of (old ++ s ∷ []) ++ others)
+order_with old s others h =
+    subst IsInOrder (sym (append_assoc (paths_of old) (s.path ∷ []) others) ∙ ap (λ ps. ps ++ others) (sym (map-append (λ (s : SourceFile). s.path) old (s ∷ [])))) h
+
+-- ---- stops
+
+pub read_fault : IsReadStop stop.ReadFault
+unfolding IsReadStop
+read_fault = tt
+
+pub no_memory : IsReadStop stop.NoMemory
+unfolding IsReadStop
+no_memory = tt
+
+pub limit_passed : (l : Limit) → IsReadStop (stop.Limit l)
+unfolding IsReadStop
+limit_passed l = tt
+
+pub store_stop : (f : StoreFault) (s : Stop) → s ≡ stop_of f → IsReadStop s
+unfolding IsReadStop
+store_stop fault.Failed s e = rw e tt
+store_stop fault.TooMany s e = rw e tt
+store_stop fault.NoMemory s e = rw e tt
+
+pub memory_is : (s : Stop) → s ≡ stop.NoMemory → IsReadStop s
+unfolding IsReadStop
+memory_is s e = rw e tt
+
+pub ruleset read_stops = (read_fault, no_memory, limit_passed, store_stop, memory_is)
+
+pub ruleset found_at = (other_at, unread_at, absent_at, there_at, order_without, order_with, read_fault, no_memory, limit_passed, store_stop, memory_is)
+
+-- ---- limits
+
+module _ (files : Files) where
+  pub no_limit : map.len files ≤ MOST_PATHS → count_read (map.keys files) ≤ MOST_FILES → bytes_read files (map.keys files) ≤ MOST_IN_ALL → limit_of files ≡ None
+  unfolding limit_of
+  no_limit p f b = rw (le-ltb MOST_PATHS (map.len files) p, le-ltb MOST_FILES (count_read (map.keys files)) f, le-ltb MOST_IN_ALL (bytes_read files (map.keys files)) b) refl
+
+  pub past_paths : MOST_PATHS < map.len files → limit_of files ≡ Some limit.Paths
+  unfolding limit_of
+  past_paths p = rw (lt-ltb MOST_PATHS (map.len files) p) refl
+
+  pub past_files : map.len files ≤ MOST_PATHS → MOST_FILES < count_read (map.keys files) → limit_of files ≡ Some limit.Files
+  unfolding limit_of
+  past_files p f = rw (le-ltb MOST_PATHS (map.len files) p, lt-ltb MOST_FILES (count_read (map.keys files)) f) refl
+
+  pub past_bytes : map.len files ≤ MOST_PATHS → count_read (map.keys files) ≤ MOST_FILES → MOST_IN_ALL < bytes_read files (map.keys files) → limit_of files ≡ Some limit.Bytes
+  unfolding limit_of
+  past_bytes p f b = rw (le-ltb MOST_PATHS (map.len files) p, le-ltb MOST_FILES (count_read (map.keys files)) f, lt-ltb MOST_IN_ALL (bytes_read files (map.keys files)) b) refl
+
+  -- a list of paths that is that of all
+  module _ (ps : List (List ℕ)) (is : ps ≡ map.keys files) (p : map.len files ≤ MOST_PATHS) (f : count_read (map.keys files) ≤ MOST_FILES) where
+    pub all_in_limit : bytes_read files ps ≤ MOST_IN_ALL → limit_of files ≡ None
+    all_in_limit b = no_limit p f (subst (λ xs. bytes_read files xs ≤ MOST_IN_ALL) is b)
+
+    pub all_past : (l : Limit) → (l ≡ limit.Bytes) × (MOST_IN_ALL < bytes_read files ps) → limit_of files ≡ Some l
+    all_past l b = past_bytes p f (subst (λ xs. MOST_IN_ALL < bytes_read files xs) is b.1) ∙ ap Some (sym b.0)
+
+    pub all_files : (found : List SourceFile) → found ≡ sources_at files ps → found ≡ sources_of files
+    unfolding sources_of
+    all_files found e = e ∙ ap (sources_at files) is
+
+-- a list of paths that was too long
+pub too_many : (files : Files) (f : StoreFault) (s : Stop) (l : Limit) → s ≡ stop_of f → (f ≡ fault.TooMany → MOST_PATHS < map.len files) → s ≡ stop.Limit l → limit_of files ≡ Some l
+too_many files fault.Failed s l e h i = absurd (cc)
+too_many files fault.TooMany s l e h i = past_paths files (h refl) ∙ ap Some (let same : stop.Limit limit.Paths ≡ stop.Limit l = sym e ∙ i in cc)
+too_many files fault.NoMemory s l e h i = absurd (cc)
+
+pub ruleset all_listed = (past_paths, past_files, read_fault, no_memory, limit_passed, store_stop)
+
+pub ruleset all_found = (all_in_limit, all_past, all_files, read_fault, no_memory, limit_passed)
+
+-- ---- one path more
+
+module _ (files : Files) (path : List ℕ) (left left' : List (List ℕ)) (cut : left' ≡ path ∷ left) where
+  pub sources_more : (files' : Files) (path' : List ℕ) → files' ≡ files → path' ≡ path → (old new all : List SourceFile) → new ≡ old ++ source_at files' path' → old ++ sources_at files left' ≡ all → new ++ sources_at files left ≡ all
+  unfolding sources_at
+  sources_more files' path' fs ps old new all e h =
+      ap (λ t. t ++ sources_at files left) (e ∙ ap (λ p. old ++ source_at files' p) ps ∙ ap (λ f. old ++ source_at f path) fs) ∙ append_assoc old (source_at files path) (sources_at files left)
+      ∙ sym (ap (λ l. old ++ sources_at files l) cut) ∙ h
+
+pub sources_all : (files : Files) (found all : List SourceFile) (left : List (List ℕ)) → left ≡ [] → found ++ sources_at files left ≡ all → found ≡ all
+unfolding sources_at
+sources_all files found all left none h = sym (append-nil found) ∙ sym (ap (λ l. found ++ sources_at files l) none) ∙ h
+
+pub order_all : (ps left : List (List ℕ)) → left ≡ [] → IsInOrder (ps ++ left) → IsInOrder ps
+order_all ps left none h = subst IsInOrder (ap (λ l. ps ++ l) none ∙ append-nil ps) h

@@ -1,4 +1,0 @@
-use Rattle.rewrite_cli.proofs.checking.check_repository.Given as goal
-
-abbrev pub ghosts-check_files : goal.ghosts-check_files
-ghosts-check_files g a = record { name = a.blank.name; parts = a.blank.parts }

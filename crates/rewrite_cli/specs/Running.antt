@@ -1,0 +1,63 @@
+-- How a recipe ends over a repository.
+use Rattle.std.specs.Prelude.{ℕ, Bool, List, [], ◌++◌, Option, None, Some, Result, Ok, Err}
+use Rattle.std.specs.List.{flat_map}
+use Rattle.rw_base.specs.declared.place.Place.{Place}
+use Rattle.rw_host.specs.Files.{Files}
+use Rattle.kept_files.specs.Readings.{Reads}
+use Rattle.kept_files.specs.States.{State}
+use Rattle.recipe_yaml.specs.declared.fault.RecipeFault.{RecipeFault}
+use Rattle.recipe_yaml.specs.declared.plans.Plan.{Plan}
+use Rattle.scheduler.specs.declared.event.Event.{Event}
+use Rattle.scheduler.specs.Runs.{Run, run, Reached, end, too_much, reached, refusal_of}
+use Rattle.rewrite_cli.specs.declared.limits.Limit.{Limit}
+use Rattle.rewrite_cli.specs.declared.limits.Limit.TheVariants as limit
+use Rattle.rewrite_cli.specs.Limits.{limit_of}
+use Rattle.rewrite_cli.specs.Meanings.{Meanings}
+use Rattle.rewrite_cli.specs.Opening.{opening, plan_in}
+use Rattle.rewrite_cli.specs.Words.{Asked}
+
+-- A run: the states that it opens and ends in, what it tells of files, how many cycles there were, and whether only
+-- their number forbids another.
+pub record Ran : Type 0 where
+  pub first : State
+  pub last : State
+  pub events : List Event
+  pub cycles : ℕ
+  pub still_changing : Bool
+
+-- there was a run, or a fault of the recipe file or of the plan, or a limit was passed
+pub data Ends : Type 0 where
+  ran : Ran → Ends
+  fault : RecipeFault → Ends
+  past : Limit → Ends
+
+-- files of a state that are refused, in the order of paths
+unfoldable pub refusals : State → List Event
+refusals files = flat_map refusal_of files
+
+-- the files that are refused at the opening come first
+abbrev pub ran_by : State → Run → Reached → Ends
+ran_by first r (end last events) = ran (record {
+  first = first;
+  last = last;
+  events = refusals first ++ events;
+  cycles = r.cycles;
+  still_changing = r.still_changing;
+})
+ran_by first r (too_much files bytes) = past limit.StepBytes
+
+abbrev pub run_by : State → Run → Ends
+run_by first r = ran_by first r (reached first [] r.stages)
+
+unfoldable pub ended_by : Reads → ℕ → State → Result Plan RecipeFault → Ends
+ended_by read cycles first (Err f) = fault f
+ended_by read cycles first (Ok plan) = run_by first (run read plan cycles first)
+
+abbrev pub within : Option Limit → Ends → Ends
+within (Some l) ends = past l
+within None ends = ends
+
+-- Limits of the repository come first, then faults, then the limit of a step.
+unfoldable pub ended : Meanings → Files → Asked → Ends
+ended meanings files asked = within (limit_of files)
+    (ended_by meanings.read asked.cycles (opening meanings.read files) (plan_in meanings files asked.recipe))
