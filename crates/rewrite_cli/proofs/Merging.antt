@@ -1,5 +1,5 @@
 -- Two states side by side, and what is written for their differences.
-use Rattle.std.proofs.Common.{◌≡◌, ℕ, ◌<◌, ◌≤◌, ◌+◌, ◌++◌, Bool, true, false, List, [], ◌∷◌, length, drop, get_or, map as map_list, Option, None, Some, refl, sym, ap, ◌∙◌, append_assoc, append-nil, arith, add-one, drop-cons}
+use Rattle.std.proofs.Common.{◌≡◌, ℕ, ◌<◌, ◌≤◌, ◌+◌, ◌++◌, List, [], ◌∷◌, length, drop, get_or, refl, sym, ap, ◌∙◌, append_assoc, append-nil, add-one, drop-cons}
 use Rattle.std.specs.Ordering.{nat_cmp, match_ordering}
 use Rattle.std.specs.Cmp.Lexicographic.{slice_cmp}
 use Rattle.std.specs.declared.cmp.Ordering.TheVariants.{Less, Equal, Greater}
@@ -7,7 +7,7 @@ use Rattle.std.proofs.lemmas.List.{drop_all}
 use Rattle.kept_files.specs.States.{State}
 use Rattle.kept_files.specs.declared.file.KeptFile.{KeptFile}
 use Rattle.rewrite_cli.specs.declared.changes.Change.{Change}
-use Rattle.rewrite_cli.specs.declared.changes.Change.TheVariants.{Created, Changed, Removed}
+use Rattle.rewrite_cli.specs.declared.changes.Change.TheVariants.{Created, Removed}
 use Rattle.rewrite_cli.specs.declared.changes.Entry.{Entry}
 use Rattle.rewrite_cli.specs.Changes.{changed_to, against, changes, entry_of, entries_of}
 

@@ -1,15 +1,13 @@
 -- What a run comes to, and what a command answers.
-use Rattle.std.specs.Prelude.{Option, Some, None, Result, Ok, Err, IsNone, ◌⊎◌}
-use Rattle.std.specs.Option.{option_map}
-use Rattle.std.proofs.Common.{◌≡◌, ℕ, ◌++◌, Bool, true, false, List, [], map as map_list, refl, sym, ap, subst, ◌∙◌, inl, inr}
+use Rattle.std.specs.Prelude.{Some, None, Result, Ok, Err}
+use Rattle.std.proofs.Common.{◌≡◌, ℕ, ◌++◌, List, [], map as map_list, refl, sym, ap, subst, ◌∙◌}
 use Rattle.rw_host.specs.Files.{Files}
 use Rattle.kept_files.specs.States.{State}
 use Rattle.recipe_yaml.specs.declared.fault.RecipeFault.{RecipeFault}
 use Rattle.recipe_yaml.specs.declared.plans.Plan.{Plan}
-use Rattle.scheduler.specs.declared.event.Event.{Event}
 use Rattle.scheduler.specs.declared.fault.RunFault.{RunFault}
 use Rattle.scheduler.specs.declared.fault.RunFault.TheVariants as run_fault
-use Rattle.scheduler.specs.Runs.{Run, run, Reached, end, too_much, reached}
+use Rattle.scheduler.specs.Runs.{run, end, too_much, reached}
 use Rattle.rw_host.specs.declared.file.SourceFile.{SourceFile}
 use Rattle.j_repair.specs.Changes.{file_of}
 use Rattle.rewrite_cli.specs.declared.limits.Limit.{Limit}
@@ -17,16 +15,14 @@ use Rattle.rewrite_cli.specs.declared.limits.Limit.TheVariants as limit
 use Rattle.rewrite_cli.specs.declared.running.Ran.{Ran as ToldRan}
 use Rattle.rewrite_cli.specs.declared.stop.Stop.{Stop}
 use Rattle.rewrite_cli.specs.declared.stop.Stop.TheVariants as stop
-use Rattle.rewrite_cli.specs.declared.words.Command.{Command as ToldCommand}
-use Rattle.rewrite_cli.specs.Asking.{command_told}
-use Rattle.rewrite_cli.specs.Words.{Asked, Command, apply, dry, check, command_of}
+use Rattle.rewrite_cli.specs.Words.{Asked, Command, apply, command_of}
 use Rattle.rewrite_cli.specs.Limits.{limit_of}
-use Rattle.rewrite_cli.specs.Meanings.{Meanings, AreMeanings}
+use Rattle.rewrite_cli.specs.Meanings.{Meanings}
 use Rattle.rewrite_cli.specs.Opening.{opening, plan_in}
 use Rattle.rewrite_cli.specs.Sources.{sources_of}
-use Rattle.rewrite_cli.specs.Running.{Ends, ran, fault, past, within, ran_by, run_by, ended_by, ended, refusals}
+use Rattle.rewrite_cli.specs.Running.{ran, fault, past, ran_by, run_by, ended_by, ended, refusals}
 use Rattle.rewrite_cli.specs.Statuses.{IsStopped, IsCommandStopped}
-use Rattle.rewrite_cli.specs.Ends.{IsEnd, IsRunStop, IsRunStopOf, IsReadStop, IsPlanStop, IsToldBy, TellsFault, ran_told}
+use Rattle.rewrite_cli.specs.Ends.{IsEnd, IsRunStop, IsRunStopOf, IsReadStop, IsPlanStop, IsToldBy, TellsFault}
 
 -- ---- how a run ends early
 

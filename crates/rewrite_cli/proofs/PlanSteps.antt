@@ -5,9 +5,8 @@ use Rattle.std.specs.Option.{option_map}
 use Rattle.std.specs.FinMap as map
 use Rattle.rw_base.specs.declared.place.Place.{Place}
 use Rattle.rw_host.specs.Files.{Files, first_bytes}
-use Rattle.kept_files.specs.Readings.{Reads, AreReadings}
+use Rattle.kept_files.specs.Readings.{Reads}
 use Rattle.recipe_yaml.specs.Books.{recipes_in}
-use Rattle.recipe_yaml.specs.KeyPathTexts.{KeyPathsOf, AreKeyPaths}
 use Rattle.recipe_yaml.specs.Plans.{plan_of}
 use Rattle.recipe_yaml.specs.declared.book.RecipeBook.{RecipeBook}
 use Rattle.recipe_yaml.specs.declared.book.Written.{Written}
@@ -23,7 +22,7 @@ use Rattle.rewrite_cli.specs.Ends.{IsPlanStop, IsRecipeFile, IsSilent, IsToldBy,
 use Rattle.rw_host.specs.declared.fault.StoreFault.{StoreFault}
 use Rattle.rw_host.specs.declared.fault.StoreFault.TheVariants as store_fault
 use Rattle.rewrite_cli.specs.Statuses.{stop_of}
-use Rattle.rewrite_cli.specs.Meanings.{Meanings, AreMeanings}
+use Rattle.rewrite_cli.specs.Meanings.{Meanings}
 use Rattle.rewrite_cli.specs.Opening.{book_in, book_by, plan_in, plan_by}
 
 -- ---- lines

@@ -1,11 +1,10 @@
 -- Entries written one after another.
-use Rattle.std.proofs.Common.{◌≡◌, ℕ, ◌<◌, ◌≤◌, ◌+◌, ◌++◌, List, [], ◌∷◌, length, take, drop, get_or, refl, sym, ap, subst, ◌∙◌, arith, inl, inr, add-one, drop-cons}
+use Rattle.std.proofs.Common.{◌≡◌, ℕ, ◌<◌, ◌+◌, ◌++◌, List, [], ◌∷◌, length, take, drop, get_or, refl, sym, ap, subst, ◌∙◌, arith, inl, inr, add-one, drop-cons}
 use Rattle.std.specs.FinMap as map
 use Rattle.std.proofs.lemmas.List.{drop_all, take_more}
 use Rattle.std.proofs.lemmas.Bool.{cases_lt}
 use Rattle.rw_host.specs.Files.{Files, SameElsewhere}
 use Rattle.rewrite_cli.specs.declared.changes.Entry.{Entry}
-use Rattle.rewrite_cli.specs.declared.stop.Stop.{Stop}
 use Rattle.rewrite_cli.specs.declared.stop.Stop.TheVariants as stop
 use Rattle.rewrite_cli.specs.Changes.{with_entry, with_entries, no_entry, IsPart}
 use Rattle.rewrite_cli.specs.Ends.{IsWriteStop}

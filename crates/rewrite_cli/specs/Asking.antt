@@ -1,5 +1,4 @@
 -- What the types of src/words.rt say.
-use Rattle.std.specs.Prelude.{ℕ, List}
 use Rattle.std.specs.Option.{option_map}
 use Rattle.rewrite_cli.specs.declared.words.Asked.{Asked as ToldAsked}
 use Rattle.rewrite_cli.specs.declared.words.Command.{Command as ToldCommand}

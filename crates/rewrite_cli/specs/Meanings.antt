@@ -1,5 +1,4 @@
 -- What files and texts read as, as functions.
-use Rattle.std.specs.Prelude.{◌≡◌}
 use Rattle.kept_files.specs.Readings.{Reads, AreReadings}
 use Rattle.recipe_yaml.specs.KeyPathTexts.{KeyPathsOf, AreKeyPaths}
 

@@ -1,5 +1,5 @@
 -- What `run` and `dry` tell.
-use Rattle.std.specs.Prelude.{ℕ, ◌+◌, Bool, true, false, List, [], ◌∷◌, ◌++◌, decimal, codes, if◌then◌else◌, Option, None, Some}
+use Rattle.std.specs.Prelude.{ℕ, ◌+◌, Bool, true, false, List, [], ◌∷◌, ◌++◌, decimal, codes, if◌then◌else◌, None, Some}
 use Rattle.rw_base.specs.declared.place.Place.{Place}
 use Rattle.kept_files.specs.States.{State}
 use Rattle.scheduler.specs.declared.event.DropCause.{DropCause}

@@ -1,7 +1,6 @@
 -- How a recipe ends over a repository.
 use Rattle.std.specs.Prelude.{ℕ, Bool, List, [], ◌++◌, Option, None, Some, Result, Ok, Err}
 use Rattle.std.specs.List.{flat_map}
-use Rattle.rw_base.specs.declared.place.Place.{Place}
 use Rattle.rw_host.specs.Files.{Files}
 use Rattle.kept_files.specs.Readings.{Reads}
 use Rattle.kept_files.specs.States.{State}

@@ -1,4 +1,4 @@
-use Rattle.std.proofs.Common.{◌∙◌, ◌++◌, ap, sym}
+use Rattle.std.proofs.Common.{◌∙◌, ◌++◌, ap}
 use Rattle.rewrite_cli.specs.Checking.{refused_line}
 use Rattle.rewrite_cli.proofs.ReportSteps.{refused_text}
 use Rattle.rewrite_cli.proofs.report.put_file.Goals as goal

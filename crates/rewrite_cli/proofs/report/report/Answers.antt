@@ -1,4 +1,4 @@
-use Rattle.std.proofs.Common.{◌++◌, ap, sym, ◌∙◌}
+use Rattle.std.proofs.Common.{◌++◌, ap, sym}
 use Rattle.rewrite_cli.specs.Asking.{asked_told}
 use Rattle.rewrite_cli.specs.Ends.{ran_told}
 use Rattle.rewrite_cli.specs.Running.{refusals}

@@ -1,4 +1,4 @@
-use Rattle.std.proofs.Common.{◌≡◌, ◌≤◌, ◌++◌, ◌∙◌, sym, ap, subst, inl, inr, map as map_list, string_bytes}
+use Rattle.std.proofs.Common.{◌≡◌, ◌≤◌, ◌++◌, ◌∙◌, ap, subst, inl, map as map_list, string_bytes}
 use Rattle.rw_host.specs.Files.{Rose}
 use Rattle.rw_host.specs.Sink.{PutsPrefix}
 use Rattle.rewrite_cli.specs.Answers.{IsPut, answer}
