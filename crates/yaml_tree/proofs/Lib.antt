@@ -6,3 +6,6 @@ pub mod PathNames
 pub mod PathSteps
 pub mod FoundSteps
 pub mod ScalarSteps
+pub mod Around
+pub mod FoundEntries
+pub mod EntriesOnce

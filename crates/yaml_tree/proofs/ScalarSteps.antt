@@ -1,6 +1,7 @@
 -- Steps of the loop over nodes, columns counted byte by byte, and what a leaf says.
-use Rattle.std.proofs.Common.{◌≡◌, ℕ, ◌+◌, ◌<◌, min, Bool, true, false, cond, List, [], ◌∷◌, length, take, drop, refl, sym, ◌∙◌, ap}
-use Rattle.std.specs.Prelude.{Option, Some}
+use Rattle.std.proofs.Common.{◌≡◌, ℕ, zero, suc, ◌+◌, ◌<◌, min, Bool, true, false, cond, List, [], ◌∷◌, length, get_or}
+use Rattle.std.proofs.Common.{take, drop, refl, sym, ◌∙◌, ap, arith}
+use Rattle.std.specs.Prelude.{Option, Some, if◌then◌else◌}
 use Rattle.std.proofs.lemmas.List.{drop_min, drop_more}
 use Rattle.rw_base.specs.declared.tree.Leaf.{Leaf}
 use Rattle.rw_base.specs.declared.tree.NodeRow.{NodeRow}
@@ -8,7 +9,7 @@ use Rattle.rw_base.specs.Arena.{Arena, leaf_at, row_at, no_row, text_of}
 use Rattle.rw_base.specs.Utf8.{mark_size}
 use Rattle.rw_grammar.specs.Results.{class_in}
 use Rattle.yaml_lex.specs.declared.context.Context.{Context}
-use Rattle.yaml_lex.specs.Characters.{is_line_end}
+use Rattle.yaml_lex.specs.Characters.{is_line_end, is_continuation}
 use Rattle.yaml_lex.specs.Contexts.{start, past, past_byte}
 use Rattle.yaml_texts.specs.Texts.{scalar_text}
 use Rattle.yaml_tree.specs.Scalars.{is_around, opening_around, column_at, column_around, scalar_of}
@@ -56,6 +57,14 @@ counted bytes at mark skip is less =
     ap (λ k. column_behind 0 (drop k front)) (less ∙ ap (λ m. min m (length front)) is)
     ∙ (ap (column_behind 0) (drop_min (mark_size bytes) front)
     ∙ sym (by_text start (drop (mark_size bytes) front)))
+
+-- behind a line end it is counted from there
+pub from_line : (k column : ℕ) (s : List ℕ) (d : ℕ) → k < length s → is_line_end (get_or s k d) ≡ true
+    → column_behind 0 (drop (suc k) s) ≡ column_behind column s
+from_line k column [] d lt e = absurd (omega arith)
+from_line zero column (b ∷ s) d lt e =
+    ap (λ c. column_behind c s) (sym (ap (λ t. cond t 0 (if is_continuation b then column else column + 1)) e))
+from_line (suc k) column (b ∷ s) d lt e = from_line k (next_column column b) s d (omega arith) e
 
 -- ---- what a leaf says
 

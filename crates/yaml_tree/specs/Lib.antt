@@ -5,4 +5,5 @@ pub mod PathReading
 pub mod Found
 pub mod Finding
 pub mod Scalars
+pub mod FoundEntries
 pub mod Decoding

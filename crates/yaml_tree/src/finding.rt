@@ -280,7 +280,8 @@ fn find_from_entry(
 }
 
 impl KeyPath {
-    /// The entries that it finds in a file's tree, from the root of each document down, in order.
+    /// The entries that it finds in a file's tree, from the root of each document down, in order. They are some of
+    /// those that `entries` gives, each once (`key_paths_find_entries`).
     pub fn finds(&self, alloc: Global, tree: &Tree, bytes: &[u8]) -> Mem<Vec<NodeId>>
         requires { length bytes.now ≡ end_of tree.now }
         ensures entries { IfOk result (λ entries. entries.items ≡ found_in bytes.now self.now tree.now) }

@@ -22,13 +22,14 @@
 //! `KeyPath::read` gives the steps that a text spells (clause `path`), or the byte behind the longest front of the text
 //! that begins some key path, and then the text is none (`fault`). A text spells one key path at most (the law
 //! `key_paths_are_one`). `KeyPath::steps` gives the steps, and `KeyPath::finds` the entries that the path finds in a
-//! file's tree (`found_in`), by the decoded texts of keys that `yaml_texts` gives.
+//! file's tree (`found_in`), by the decoded texts of keys that `yaml_texts` gives. They are some of the entries that
+//! `entries` gives, in their order, and each once (the law `key_paths_find_entries`).
 //!
 //! The definitions in specs/, in this order: `Reading` says what comes of a file, by the leaves of `yaml_lex`, the
 //! table, and `rw_grammar`'s reading by a table. `Entries` says which nodes of a tree are entries, over trees as plain
-//! data. `Scalars` says what a leaf says, by what stands around it. `KeyPaths` is the grammar of key paths, and `Found`
-//! says what they find. `Decoding`, `PathReading` and `Finding` are of the small functions alone, and no public clause
-//! cites them.
+//! data. `Scalars` says what a leaf says, by what stands around it. `KeyPaths` is the grammar of key paths, `Found`
+//! says what they find, and `FoundEntries` what it means that these are some of the entries. `Decoding`, `PathReading`
+//! and `Finding` are of the small functions alone, and no public clause cites them.
 #![tactic(auto)]
 
 mod entry;
@@ -44,7 +45,9 @@ mod table;
 pub use entry::{EntryView, entries, is_flow_mapping, own_entry};
 pub use key_path::{KeyPath, PathFault, PathStep};
 pub use kind::Kind;
-pub use laws::{key_paths_are_one, key_paths_compare_scalars, readings_are_one};
+pub use laws::{
+    key_paths_are_one, key_paths_compare_scalars, key_paths_find_entries, readings_are_one,
+};
 pub use option::{ChangeKey, ChangeValue, DeleteKey, YamlChangePropertyKey};
 pub use reader::{STREAM, YamlReader};
 pub use scalars::scalar;
