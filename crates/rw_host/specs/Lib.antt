@@ -1,3 +1,5 @@
+pub mod Crash
+pub mod CrashLaws
 pub mod FileLaws
 pub mod Files
 pub mod Path

@@ -7,6 +7,7 @@ ghost use Rattle.rw_host.specs.Room.{room_of};
 use crate::full::{FullPath, folder_of};
 use crate::listing::list_below;
 use crate::path::is_path;
+use crate::seen::SeenFolder;
 use crate::unsynced::Unsynced;
 use crate::{Failed, PathText, Store, StoreFault};
 use rw_base::Mem;
@@ -24,13 +25,19 @@ const MOST_KEPT: usize = 4 * 1024 * 1024;
 /// The real folder below a root. It tells no files, since others may change them.
 ///
 /// - A text that isn't a path names no file: a read gives `None`, and a removal is `Ok`.
-/// - A folder or a file that the system doesn't give is a fault, and so is a folder where a file is read. Where the
-///   system refuses memory, `list`, `read` and `reserve` answer `NoMemory`, and a write, a removal or a sync fails.
+/// - A folder or a file that the system doesn't give is a fault. So is what isn't a file where one is read, written or
+///   removed: a folder, a link, a pipe or a socket, which is never opened; and what isn't a folder where the path needs
+///   one. Where a file has the name `.rewrite`, no file is below it.
+/// - Where the system refuses memory, `list`, `read` and `reserve` answer `NoMemory`, and a write, a removal or a sync
+///   fails.
 /// - A write puts the new bytes in the place of the old ones, and makes the folders that it needs. It takes no memory:
 ///   `reserve` has made the room that it needs.
 /// - `sync` asks the system to sync each file that was written and each folder in which one was written or removed
 ///   since the last sync that succeeded. Files stay open until then, 64 at most: a write beyond that syncs them first.
-///   What outlasts a loss of power is the system's to keep, and no clause speaks of it.
+///   The first sync also asks for what an earlier process may have left: the files and folders of the journal. What
+///   outlasts a loss of power is the system's to keep, and no clause speaks of it.
+/// - Where a sync fails, the system may have lost what was to be synced. So each later write, removal and sync of the
+///   store fails too.
 #[derive(Drop)]
 pub struct FolderStore<R: Files> {
     rt: R,
@@ -38,7 +45,10 @@ pub struct FolderStore<R: Files> {
     full: FullPath,
     // What a read puts the bytes into before it knows how many there are.
     buffer: Vec<u8>,
+    seen: SeenFolder,
     unsynced: Unsynced<R>,
+    // Whether something may be unsynced, by this process or by an earlier one.
+    is_unsynced: bool,
     read_faults: u64,
     write_faults: u64,
 }
@@ -55,7 +65,9 @@ impl<R: Files> FolderStore<R> {
             alloc,
             full: FullPath::new(alloc, root)?,
             buffer: Vec::new(alloc),
+            seen: SeenFolder::new(alloc)?,
             unsynced: Unsynced::new(alloc)?,
+            is_unsynced: true,
             read_faults: 0,
             write_faults: 0,
         })
@@ -132,12 +144,11 @@ fn read_file<R: Files>(
     Ok(Some(bytes))
 }
 
-// Opens a file for writing, makes it where it is missing, and the folders that it needs. Tells whether it has made any
-// of those.
-fn open_to_write<R: Files>(rt: &R, full: &str) -> io::Result<(R::File, bool)> {
-    match OpenOptions::new().write(true).open(rt, full) {
-        Err(e) if e.kind() == ErrorKind::NotFound => {}
-        opened => return Ok((opened?, false)),
+// Opens a file for writing, or makes it and the folders that it needs where it is missing. Tells whether it has made
+// any of those.
+fn open_to_write<R: Files>(rt: &R, full: &str, is_there: bool) -> io::Result<(R::File, bool)> {
+    if is_there {
+        return Ok((OpenOptions::new().write(true).open(rt, full)?, false));
     }
     match File::create(rt, full) {
         Err(e) if e.kind() == ErrorKind::NotFound => {}
@@ -165,12 +176,14 @@ impl<R: Files> FolderStore<R> {
         ensures writes { self.new.write_faults ≡ self.old.write_faults }
     {
         self.unsynced.before_write()?;
-        let (mut file, made) = open_to_write(&self.rt, self.full.of(path.as_str())?)?;
+        let is_there = self.seen.has_file(&self.rt, &mut self.full, path.as_str())?;
+        let (mut file, made) = open_to_write(&self.rt, self.full.of(path.as_str())?, is_there)?;
         let done = overwrite(&mut file, bytes);
         self.unsynced.note_file(file, path, made)?;
         done
     }
 
+    // The folder of a file that is gone already is synced too: an earlier process may have removed the file.
     fn try_remove(&mut self, path: &str) -> io::Result<()>
         ensures room { self.new.unsynced.written ≡ self.old.unsynced.written }
         ensures reads { self.new.read_faults ≡ self.old.read_faults }
@@ -179,17 +192,36 @@ impl<R: Files> FolderStore<R> {
         if !is_path(path) {
             return Ok(());
         }
+        let is_there = self.seen.has_file(&self.rt, &mut self.full, path)?;
         let full = self.full.of(path)?;
         self.unsynced.note_removal(&self.rt, full)?;
+        if !is_there {
+            return Ok(());
+        }
         match fs::remove_file(&self.rt, full) {
             Err(e) if is_absent(&e) => Ok(()),
             done => done,
         }
     }
 
+    fn try_read(&mut self, alloc: Global, path: &str, most: u32) -> io::Result<Option<Vec<u8>>>
+        ensures at_most { IfOk result (λ found. IfSome found (λ v. vec_len v ≤ most)) }
+        ensures room { self.new.unsynced ≡ self.old.unsynced }
+        ensures unsynced { self.new.is_unsynced ≡ self.old.is_unsynced }
+        ensures reads { self.new.read_faults ≡ self.old.read_faults }
+        ensures writes { self.new.write_faults ≡ self.old.write_faults }
+    {
+        if !self.seen.has_file(&self.rt, &mut self.full, path)? {
+            return Ok(None);
+        }
+        let full = self.full.of(path)?;
+        read_file(&self.rt, alloc, &mut self.buffer, full, most)
+    }
+
     // Counts a call that failed.
     fn count_fault(&mut self, done: io::Result<()>) -> Result<(), Failed>
         ensures room { self.new.unsynced ≡ self.old.unsynced }
+        ensures unsynced { self.new.is_unsynced ≡ self.old.is_unsynced }
         ensures reads { self.new.read_faults ≡ self.old.read_faults }
         ensures rose { OnErr result (Rose self.old.write_faults self.new.write_faults) }
         ensures count { self.old.write_faults ≤ self.new.write_faults }
@@ -215,6 +247,24 @@ impl<R: Files + AllocGlobal + Clone + Drop> Store for FolderStore<R> {
 
     ghost write_faults = { λ s. s.write_faults };
 
+    ghost is_unsynced = { λ s. s.is_unsynced };
+
+    ghost tells_images = { false };
+
+    ghost image = { λ _ _. Unit {0} };
+
+    ghost moment = { λ _. 0 };
+
+    ghost left_since = { λ _ _ _. Unit {0} };
+
+    ghost told_together = { λ told. told };
+
+    ghost reads_are_left = { λ _. tt };
+
+    ghost only_now = { λ _ _ _. tt };
+
+    ghost counts_now = { λ _ _ _ _ _. tt };
+
     fn list(&mut self, alloc: Global, most: u32) -> Result<Vec<PathText>, StoreFault> {
         let listed = list_below(&self.rt, alloc, self.full.root(), most);
         if let Err(StoreFault::Failed) = &listed {
@@ -232,10 +282,7 @@ impl<R: Files + AllocGlobal + Clone + Drop> Store for FolderStore<R> {
         if !is_path(path) {
             return Ok(None);
         }
-        let found = match self.full.of(path) {
-            Ok(full) => read_file(&self.rt, alloc, &mut self.buffer, full, most),
-            Err(e) => Err(e),
-        };
+        let found = self.try_read(alloc, path, most);
         if self.buffer.len() > MOST_KEPT {
             self.buffer = Vec::new(self.alloc);
         }
@@ -258,16 +305,20 @@ impl<R: Files + AllocGlobal + Clone + Drop> Store for FolderStore<R> {
 
     fn write(&mut self, path: PathText, bytes: Vec<u8>) -> Result<(), Failed> {
         let done = self.try_write(path, &bytes);
+        self.is_unsynced = true;
         self.count_fault(done)
     }
 
     fn remove(&mut self, path: &str) -> Result<(), Failed> {
         let done = self.try_remove(path);
+        self.is_unsynced = true;
         self.count_fault(done)
     }
 
     fn sync(&mut self) -> Result<(), Failed> {
-        let done = self.unsynced.sync(&self.rt, &mut self.full);
-        self.count_fault(done)
+        let done = self.unsynced.sync(&self.rt, &mut self.full, &mut self.seen);
+        self.count_fault(done)?;
+        self.is_unsynced = false;
+        Ok(())
     }
 }

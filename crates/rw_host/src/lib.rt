@@ -14,13 +14,15 @@
 //! A store lists its paths in order, each once (`Store::list`, clauses `paths` and `in_order`), reads give the bytes
 //! that were written (`read`, `bytes`; `write`, `written`), a failed write or removal leaves every other path as it was
 //! (`write` and `remove`, `elsewhere`), and `Failed` is answered only where the count of that kind of call rose
-//! (`cause`, `count` and `other_count` of each call). The clauses on files hold of a store that tells them to proofs. A
-//! real folder tells none, since others may change it; those of the crate `memory_stores` do. A sink has put the whole
-//! piece or a prefix of it (`Sink::put`, `whole` and `part`). `Steps` is a number that only `tick` changes, by one.
+//! (`cause`, `count` and `other_count` of each call). What a crash may leave at each moment, inside of a call too, is
+//! said by the clause `crash` of each call, and `sync` leaves one image (`durable`). The clauses on files and crashes
+//! hold of a store that tells them to proofs. A real folder tells none, since others may change it; those of the crate
+//! `memory_stores` do. A sink has put the whole piece or a prefix of it (`Sink::put`, `whole` and `part`). `Steps` is a
+//! number that only `tick` changes, by one.
 //!
 //! Definitions, in this order: `Files` (files as a map from paths to bytes, the order of paths, a count that rose),
-//! `Path` (which texts are paths), `Sink`. `Room` serves private functions alone, and `FileLaws` has laws of `Files`
-//! for the proofs of crates above.
+//! `Crash` (what a crash may leave), `Path` (which texts are paths), `Sink`. `Room` serves private functions alone, and
+//! `FileLaws` and `CrashLaws` have laws of `Files` and `Crash` for the proofs of crates above.
 #![tactic(auto)]
 
 mod fault;
@@ -30,6 +32,7 @@ mod full;
 mod gate;
 mod listing;
 mod path;
+mod seen;
 mod sink;
 mod steps;
 mod store;

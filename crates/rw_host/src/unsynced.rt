@@ -4,6 +4,7 @@ ghost use Rattle.rw_host.specs.Room.{room_of};
 
 use crate::PathText;
 use crate::full::{FullPath, MOST_PATH, folder_of};
+use crate::seen::{JOURNAL_FOLDER, SeenFolder};
 use std::alloc::{AllocError, Global};
 use std::fs::{File, OpenFile};
 use std::io;
@@ -13,7 +14,19 @@ use std::rt::Files;
 // How many files stay open at most until they are synced.
 const MOST_OPEN: usize = 64;
 
-// A file that was written, and whether folders were made for it.
+// The files of the journal, which an earlier process may have left unsynced.
+const JOURNAL_FILES: [&str; 2] = [".rewrite/gate", ".rewrite/journal"];
+
+// Which syncs have succeeded. The first syncs what an earlier process may have left. Until the second it isn't known
+// which folders that process made, as what is written between the two may be its journal's.
+#[derive(Clone, Copy, PartialEq, Eq)]
+enum Age {
+    New,
+    Opened,
+    Settled,
+}
+
+// A file that was written, and whether the folders above its own are to be synced, since they may be new.
 #[derive(Drop)]
 struct Written {
     path: PathText,
@@ -29,6 +42,9 @@ pub(crate) struct Unsynced<R: Files> {
     written: Vec<Written>,
     // The full path of the folder in which a file was removed last. Those before it are synced.
     removal_folder: String,
+    age: Age,
+    // Whether a sync has failed.
+    has_failed: bool,
 }
 
 impl<R: Files> Unsynced<R> {
@@ -37,6 +53,8 @@ impl<R: Files> Unsynced<R> {
             files: Vec::new(alloc),
             written: Vec::new(alloc),
             removal_folder: String::with_capacity(alloc, MOST_PATH)?,
+            age: Age::New,
+            has_failed: false,
         })
     }
 
@@ -50,12 +68,24 @@ impl<R: Files> Unsynced<R> {
         self.written.reserve(writes as usize)
     }
 
+    // Whether what was written can still be synced. Where a sync failed, the system may have dropped it.
+    fn check(&self) -> io::Result<()> {
+        if self.has_failed {
+            Err(io::Error::from(ErrorKind::Other))
+        } else {
+            Ok(())
+        }
+    }
+
     // Syncs the files that are open, where there are as many as may be.
     pub(crate) fn before_write(&mut self) -> io::Result<()>
         ensures { self.new.written ≡ self.old.written }
     {
+        self.check()?;
         if self.files.len() >= MOST_OPEN {
-            self.sync_files()?;
+            let done = self.sync_files();
+            self.has_failed = done.is_err();
+            done?;
         }
         Ok(())
     }
@@ -70,8 +100,9 @@ impl<R: Files> Unsynced<R> {
         ensures { room_of self.old.written ≤ room_of self.new.written + 1 }
     {
         self.files.push(file)?;
+        let made = made || self.age != Age::Settled;
         if let Some(last) = self.written.last() {
-            if !made && folder_of(last.path.as_str()) == folder_of(path.as_str()) {
+            if (last.made || !made) && folder_of(last.path.as_str()) == folder_of(path.as_str()) {
                 return Ok(());
             }
         }
@@ -83,22 +114,46 @@ impl<R: Files> Unsynced<R> {
     pub(crate) fn note_removal(&mut self, rt: &R, full: &str) -> io::Result<()>
         ensures { self.new.written ≡ self.old.written }
     {
+        self.check()?;
         let folder = folder_of(full);
         if self.removal_folder.as_str() != folder {
-            self.sync_removal_folder(rt)?;
+            let done = self.sync_removal_folder(rt);
+            self.has_failed = done.is_err();
+            done?;
             self.removal_folder.push_str(folder)?;
         }
         Ok(())
     }
 
     // Syncs each file and each folder, and forgets them where none fails.
-    pub(crate) fn sync(&mut self, rt: &R, full: &mut FullPath) -> io::Result<()>
+    pub(crate) fn sync(
+        &mut self,
+        rt: &R,
+        full: &mut FullPath,
+        seen: &mut SeenFolder,
+    ) -> io::Result<()>
+        ensures { room_of self.old.written ≤ room_of self.new.written }
+    {
+        self.check()?;
+        let done = self.sync_all(rt, full, seen);
+        self.has_failed = done.is_err();
+        done
+    }
+
+    fn sync_all(&mut self, rt: &R, full: &mut FullPath, seen: &mut SeenFolder) -> io::Result<()>
         ensures { room_of self.old.written ≤ room_of self.new.written }
     {
         self.sync_files()?;
         self.sync_removal_folder(rt)?;
         self.sync_folders(rt, full)?;
         self.written.clear();
+        self.age = match self.age {
+            Age::New => {
+                sync_journal(rt, full, seen)?;
+                Age::Opened
+            }
+            _ => Age::Settled,
+        };
         Ok(())
     }
 
@@ -116,7 +171,7 @@ impl<R: Files> Unsynced<R> {
         ensures { self.new.written ≡ self.old.written }
     {
         if !self.removal_folder.is_empty() {
-            sync_folder(rt, self.removal_folder.as_str())?;
+            sync_entry(rt, self.removal_folder.as_str())?;
             self.removal_folder.clear();
         }
         Ok(())
@@ -129,31 +184,65 @@ impl<R: Files> Unsynced<R> {
         self.written.sort_unstable_by(|one, other| {
             folder_of(one.path.as_str()).cmp(folder_of(other.path.as_str()))
         });
-        let mut last = None;
+        let mut synced = None;
+        let mut synced_above = None;
         for written in &self.written {
             let folder = folder_of(written.path.as_str());
-            if last != Some(folder) {
-                sync_folder(rt, full.of(folder)?)?;
-                last = Some(folder);
+            if synced != Some(folder) {
+                sync_entry(rt, full.of(folder)?)?;
+                synced = Some(folder);
             }
-            if written.made {
-                sync_above(rt, full, folder)?;
+            if written.made && synced_above != Some(folder) {
+                sync_above(rt, full, folder, synced_above)?;
+                synced_above = Some(folder);
             }
         }
         Ok(())
     }
 }
 
-// Syncs each folder above this one, up to the root.
-fn sync_above<R: Files>(rt: &R, full: &mut FullPath, folder: &str) -> io::Result<()> {
-    for (at, _) in folder.match_indices('/') {
-        sync_folder(rt, full.of(&folder[..at])?)?;
+fn is_below(path: &str, folder: &str) -> bool {
+    match path.strip_prefix(folder) {
+        Some(rest) => rest.starts_with('/'),
+        None => false,
     }
-    sync_folder(rt, full.root())
 }
 
-// What is gone needs no sync.
-fn sync_folder<R: Files>(rt: &R, full: &str) -> io::Result<()> {
+// Syncs each folder above this one, up to the root, but those above the one for which that was done last.
+fn sync_above<R: Files>(
+    rt: &R,
+    full: &mut FullPath,
+    folder: &str,
+    done: Option<&str>,
+) -> io::Result<()> {
+    let done = done.unwrap_or("");
+    for (at, _) in folder.match_indices('/') {
+        let above = &folder[..at];
+        if !is_below(done, above) {
+            sync_entry(rt, full.of(above)?)?;
+        }
+    }
+    if done.is_empty() {
+        sync_entry(rt, full.root())?;
+    }
+    Ok(())
+}
+
+// Syncs the files of the journal, their folder and the root, as far as they are there.
+fn sync_journal<R: Files>(rt: &R, full: &mut FullPath, seen: &mut SeenFolder) -> io::Result<()> {
+    for path in JOURNAL_FILES {
+        if seen.has_file(rt, full, path)? {
+            sync_entry(rt, full.of(path)?)?;
+        }
+    }
+    if seen.has_folder(rt, full, JOURNAL_FILES[0])? {
+        sync_entry(rt, full.of(JOURNAL_FOLDER)?)?;
+    }
+    sync_entry(rt, full.root())
+}
+
+// Syncs a file or a folder. What is gone needs no sync.
+fn sync_entry<R: Files>(rt: &R, full: &str) -> io::Result<()> {
     match File::open(rt, full) {
         Ok(file) => file.sync_all(),
         Err(e) if e.kind() == ErrorKind::NotFound => Ok(()),
