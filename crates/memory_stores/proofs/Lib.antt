@@ -1,6 +1,10 @@
 pub mod Calls
+pub mod Images
 pub mod Maps
 pub mod Now
 pub mod Order
+pub mod Past
+pub mod Picks
 pub mod Rows
 pub mod Searched
+pub mod Walked

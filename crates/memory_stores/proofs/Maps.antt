@@ -9,7 +9,7 @@ use Rattle.std.specs.FinMap as finmap
 use Rattle.std.specs.FinMap.{find, put, is_sorted}
 use Rattle.std.specs.FinMap.Entries.{where_key, is_sorted-put, is_sorted-where_key, find-where_key}
 use Rattle.memory_stores.specs.declared.state.FileState.{FileState}
-use Rattle.memory_stores.specs.declared.table.FileRow.{FileRow}
+use Rattle.memory_stores.specs.declared.row.FileRow.{FileRow}
 use Rattle.memory_stores.specs.Rows.{row_entries, are_in_order, states_of, IsPlaceOf, IsGapFor, IsPut, IsTaken, IsChanged}
 use Rattle.memory_stores.specs.States.{insert_some}
 use Rattle.memory_stores.proofs.Order.{by_bytes, total, exact}

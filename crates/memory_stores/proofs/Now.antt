@@ -1,6 +1,6 @@
 -- The files that a store in memory holds, by what it knows of each path.
 use Rattle.std.proofs.Common.{◌≡◌, ℕ, ◌+◌, ◌<◌, ◌≤◌, Bool, true, false, cond, List, [], ◌∷◌, ◌++◌, map, length, take, get_or, append-nil, Option, Some, None, refl, sym, ap, ◌∙◌, subst}
-use Rattle.std.specs.Prelude.{IsTrue}
+use Rattle.std.specs.Prelude.{IsTrue, nat_lt}
 use Rattle.std.proofs.lemmas.List.{take_more, take_all, map-append, length-map}
 use Rattle.std.proofs.lemmas.List.Elements.{filter_map-append}
 use Rattle.std.specs.Option.{option_map, option_or, is_some}
@@ -13,11 +13,11 @@ use Rattle.std.specs.FinMap.Entries.{below_all}
 use Rattle.std.proofs.lemmas.Bool.{both_ways}
 use Rattle.rw_host.specs.Files.{Files}
 use Rattle.memory_stores.specs.declared.state.FileState.{FileState}
-use Rattle.memory_stores.specs.States.{States, file_entry, now_at, now_of, state_of_write, state_of_failed_write, state_of_failed_removal, state_of_removal, change_state, insert_some}
+use Rattle.memory_stores.specs.States.{States, file_entry, now_at, now_of, state_of_write, state_of_failed_write, state_of_late_write, state_of_write_fault, state_of_failed_removal, state_of_removal_fault, state_of_late_removal, state_of_removal, change_state, insert_some}
 use Rattle.memory_stores.specs.Table.{GivenFiles, initial_states, entries_of}
 use Rattle.memory_stores.proofs.Order.{by_bytes, total, exact, ties_decide}
 use Rattle.memory_stores.proofs.Rows.{is_Less, left, right}
-use Rattle.memory_stores.specs.declared.table.FileRow.{FileRow}
+use Rattle.memory_stores.specs.declared.row.FileRow.{FileRow}
 use Rattle.memory_stores.specs.Rows.{entry_of, row_entries, are_in_order, states_of}
 use Rattle.memory_stores.proofs.Maps.{holds, is_true, entries_states}
 
@@ -27,11 +27,11 @@ Entries = List (List ℕ × FileState)
 abbrev pub file_entries : Entries → List (List ℕ × List ℕ)
 file_entries es = filter_map file_entry es
 
-abbrev with_bytes : List ℕ → Option (List ℕ) → Option (List ℕ × List ℕ)
+abbrev pub with_bytes : List ℕ → Option (List ℕ) → Option (List ℕ × List ℕ)
 with_bytes path bytes = option_map (λ b. (path, b)) bytes
 
 -- ---- the order
-below_cons : (x path : List ℕ) (bytes : Option (List ℕ)) (es : List (List ℕ × List ℕ)) → is_lt (by_bytes x path) ≡ true → below_all by_bytes x es ≡ true → below_all by_bytes x (cons_option (with_bytes path bytes) es) ≡ true
+pub below_cons : (x path : List ℕ) (bytes : Option (List ℕ)) (es : List (List ℕ × List ℕ)) → is_lt (by_bytes x path) ≡ true → below_all by_bytes x es ≡ true → below_all by_bytes x (cons_option (with_bytes path bytes) es) ≡ true
 below_cons x path None es less below = below
 below_cons x path (Some b) es less below = rw less below
 
@@ -39,7 +39,7 @@ below_files : (x : List ℕ) (es : Entries) → below_all by_bytes x es ≡ true
 below_files x [] below = refl
 below_files x (e ∷ es) below = below_cons x e.0 e.1.now (file_entries es) (left _ _ below) (below_files x es (right _ _ below))
 
-sorted_cons : (path : List ℕ) (bytes : Option (List ℕ)) (es : List (List ℕ × List ℕ)) → below_all by_bytes path es ≡ true → is_sorted by_bytes es ≡ true → is_sorted by_bytes (cons_option (with_bytes path bytes) es) ≡ true
+pub sorted_cons : (path : List ℕ) (bytes : Option (List ℕ)) (es : List (List ℕ × List ℕ)) → below_all by_bytes path es ≡ true → is_sorted by_bytes es ≡ true → is_sorted by_bytes (cons_option (with_bytes path bytes) es) ≡ true
 sorted_cons path None es below sorted = sorted
 sorted_cons path (Some b) es below sorted = rw below sorted
 
@@ -48,7 +48,7 @@ sorted_files [] sorted = refl
 sorted_files (e ∷ es) sorted = sorted_cons e.0 e.1.now (file_entries es) (below_files e.0 es (left _ _ sorted)) (sorted_files es (right _ _ sorted))
 
 -- ---- a look-up
-none_below : (q : List ℕ) (es : List (List ℕ × List ℕ)) → below_all by_bytes q es ≡ true → find by_bytes q es ≡ None
+pub none_below : {X : Type 0} (q : List ℕ) (es : List (List ℕ × X)) → below_all by_bytes q es ≡ true → find by_bytes q es ≡ None
 none_below q [] below = refl
 none_below q (e ∷ es) below =
     let less : by_bytes q e.0 ≡ Less = is_Less (by_bytes q e.0) (left _ _ below) in
@@ -58,11 +58,11 @@ same_either : {X : Type 0} (b : Bool) (x : X) → x ≡ cond b x x
 same_either true x = refl
 same_either false x = refl
 
-find_cons : (q path : List ℕ) (bytes : Option (List ℕ)) (es : List (List ℕ × List ℕ)) → find by_bytes q (cons_option (with_bytes path bytes) es) ≡ cond (eq_by_cmp by_bytes q path) (option_or bytes (find by_bytes q es)) (find by_bytes q es)
+pub find_cons : (q path : List ℕ) (bytes : Option (List ℕ)) (es : List (List ℕ × List ℕ)) → find by_bytes q (cons_option (with_bytes path bytes) es) ≡ cond (eq_by_cmp by_bytes q path) (option_or bytes (find by_bytes q es)) (find by_bytes q es)
 find_cons q path None es = same_either (eq_by_cmp by_bytes q path) (find by_bytes q es)
 find_cons q path (Some b) es = refl
 
-or_none : {X : Type 0} (o : Option X) → option_or o None ≡ o
+pub or_none : {X : Type 0} (o : Option X) → option_or o None ≡ o
 or_none None = refl
 or_none (Some x) = refl
 
@@ -142,6 +142,18 @@ touched_now (Some s) call = refl
 pub now_touched : (states : States) (path : List ℕ) (call : ℕ) → now_of (finmap.insert states path (state_of_failed_write (finmap.get states path) call)) ≡ now_of states
 now_touched states path call = now_kept states path _ (touched_now (finmap.get states path) call)
 
+touched_by_now : (call stop : ℕ) (o : Option FileState) → (state_of_write_fault call stop o).now ≡ now_at o
+touched_by_now call stop o = by_test (nat_lt call stop) o
+  where
+    by_test : (b : Bool) (o : Option FileState) → (cond b (state_of_failed_write o call) (state_of_late_write o)).now ≡ now_at o
+    by_test true None = refl
+    by_test false None = refl
+    by_test true (Some s) = refl
+    by_test false (Some s) = refl
+
+pub now_touched_by : (states : States) (path : List ℕ) (call stop : ℕ) → now_of (finmap.insert states path (state_of_write_fault call stop (finmap.get states path))) ≡ now_of states
+now_touched_by states path call stop = now_kept states path _ (touched_by_now call stop (finmap.get states path))
+
 -- a path without a file is removed
 absent_removed : (files : Files) (path : List ℕ) → finmap.get files path ≡ None → finmap.remove files path ≡ files
 absent_removed files path none = finmap.same_map total exact _ _ (λ q.
@@ -161,6 +173,17 @@ marked_some states path call (Some s) e = now_kept states path (state_of_failed_
 
 pub now_marked : (states : States) (path : List ℕ) (call : ℕ) → now_of (change_state states path (λ s. state_of_failed_removal s call)) ≡ now_of states
 now_marked states path call = marked_some states path call (finmap.get states path) refl
+
+pub now_marked_by : (states : States) (path : List ℕ) (call stop : ℕ) → now_of (change_state states path (state_of_removal_fault call stop)) ≡ now_of states
+now_marked_by states path call stop = by_state (finmap.get states path) refl
+  where
+    same_now : (s : FileState) (b : Bool) → (cond b (state_of_failed_removal s call) (state_of_late_removal s)).now ≡ s.now
+    same_now s true = refl
+    same_now s false = refl
+
+    by_state : (o : Option FileState) → finmap.get states path ≡ o → now_of (insert_some states path (option_map (state_of_removal_fault call stop) o)) ≡ now_of states
+    by_state None e = refl
+    by_state (Some s) e = now_kept states path (state_of_removal_fault call stop s) (same_now s (nat_lt call stop) ∙ sym (ap now_at e))
 
 -- ---- the files that were handed in
 now_empty : now_of finmap.empty ≡ finmap.empty

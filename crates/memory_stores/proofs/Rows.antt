@@ -9,7 +9,7 @@ use Rattle.std.specs.declared.cmp.Ordering.TheVariants.{Less, Equal, Greater}
 use Rattle.std.specs.Ordering.{is_lt, eq_by_cmp}
 use Rattle.std.specs.FinMap.{find, put, is_sorted}
 use Rattle.std.specs.FinMap.Entries.{below_all, where_key}
-use Rattle.memory_stores.specs.declared.table.FileRow.{FileRow}
+use Rattle.memory_stores.specs.declared.row.FileRow.{FileRow}
 use Rattle.memory_stores.specs.Rows.{entry_of, row_entries, are_in_order, IsPlaceOf, IsGapFor}
 use Rattle.memory_stores.proofs.Order.{by_bytes, greater_from_less, less_from_greater, equal_from_same}
 

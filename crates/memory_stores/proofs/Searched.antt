@@ -18,7 +18,7 @@ use Rattle.std.proofs.lemmas.Map.Made.{IsDistinct-from_AllPairs}
 use Rattle.std.proofs.lemmas.Map.Entries.{place_from_lookup, lookup_from_place}
 use Rattle.std.proofs.lemmas.Option.{slice_get_within, slice_get-get_or, get_or_from_slice_get}
 use Rattle.std.proofs.lemmas.Simd.{map-map}
-use Rattle.memory_stores.specs.declared.table.FileRow.{FileRow}
+use Rattle.memory_stores.specs.declared.row.FileRow.{FileRow}
 use Rattle.memory_stores.specs.Rows.{entry_of, row_entries, are_in_order, states_of, IsPlaceOf, IsGapFor}
 use Rattle.memory_stores.specs.States.{state_of_write}
 use Rattle.memory_stores.specs.Table.{GivenFiles, initial_states, IsEachOnce}

@@ -1,4 +1,10 @@
+pub mod ImageLaws
+pub mod Images
+pub mod Log
 pub mod Memory
+pub mod Past
+pub mod Picked
 pub mod Rows
 pub mod States
 pub mod Table
+pub mod Walk

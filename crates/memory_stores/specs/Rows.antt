@@ -1,12 +1,14 @@
 -- The rows of a table, as entries of a map.
-use Rattle.std.specs.Prelude.{◌≡◌, ℕ, ◌<◌, ◌≤◌, Bool, IsTrue, List, map, length, slice_index_or}
+use Rattle.std.specs.Prelude.{◌≡◌, ℕ, ◌<◌, ◌≤◌, Bool, IsTrue, Option, List, map, length, slice_index_or}
 use Rattle.std.specs.declared.cmp.Ordering.TheVariants.{Less, Greater}
 use Rattle.std.specs.Ordering.{nat_cmp}
 use Rattle.std.specs.Cmp.Lexicographic.{slice_cmp}
 use Rattle.std.specs.FinMap as finmap
-use Rattle.memory_stores.specs.States.{States, change_state}
+use Rattle.memory_stores.specs.States.{States, change_state, state_of_write}
+use Rattle.memory_stores.specs.Past.{GoesBack}
 use Rattle.memory_stores.specs.declared.state.FileState.{FileState}
-use Rattle.memory_stores.specs.declared.table.FileRow.{FileRow}
+use Rattle.memory_stores.specs.declared.row.FileRow.{FileRow}
+use Rattle.memory_stores.specs.declared.undo.Undo.{Undo}
 
 -- a row's path and what is known of it
 abbrev pub entry_of : FileRow → List ℕ × FileState
@@ -50,3 +52,11 @@ pub record IsChanged (rows : List FileRow) (path : List ℕ) (change : FileState
     : Type 0 where
   pub sorted : IsTrue (are_in_order new)
   pub states : states_of new ≡ change_state (states_of rows) path change
+
+-- from the new rows it goes back to the old ones
+abbrev pub RowsGoBack : Option Undo → List FileRow → List FileRow → Type 0
+RowsGoBack undo old new = GoesBack undo (row_entries old) (row_entries new)
+
+-- files as a new store knows them
+abbrev pub stored : List (List ℕ × List ℕ) → List (List ℕ × FileState)
+stored files = map (λ file. (file.0, state_of_write file.1 0)) files

@@ -1,5 +1,5 @@
 -- What a store in memory knows of each path that it has met.
-use Rattle.std.specs.Prelude.{ℕ, Bool, true, false, cond, Option, Some, None, List, refl}
+use Rattle.std.specs.Prelude.{ℕ, Bool, true, false, cond, nat_lt, ◌||◌, Option, Some, None, List, refl}
 use Rattle.std.specs.Option.{option_map}
 use Rattle.std.specs.List.{filter_map}
 use Rattle.std.specs.Ordering.{nat_cmp}
@@ -14,9 +14,10 @@ States = finmap.FinMap (slice_cmp nat_cmp) FileState
 
 abbrev pub state_code : Coded FileState
 state_code =
-    code_by (Option (List ℕ) × (Bool × ℕ)) (coded× (coded_option (coded_list coded_ℕ)) (coded× coded_bool coded_ℕ))
-    (λ s. (s.now, (s.was_held, s.changed)))
-    (λ p. record { now = p.0; was_held = p.1.0; changed = p.1.1 })
+    code_by (Option (List ℕ) × (Bool × (ℕ × Bool)))
+    (coded× (coded_option (coded_list coded_ℕ)) (coded× coded_bool (coded× coded_ℕ coded_bool)))
+    (λ s. (s.now, (s.was_held, (s.changed, s.late))))
+    (λ p. record { now = p.0; was_held = p.1.0; changed = p.1.1.0; late = p.1.1.1 })
     (λ _. refl)
 
 abbrev pub states_code : Coded States
@@ -24,19 +25,42 @@ states_code = finmap.code (coded_list coded_ℕ) state_code
 
 -- a path with these bytes, put there by this call
 abbrev pub state_of_write : List ℕ → ℕ → FileState
-state_of_write bytes call = record { now = Some bytes; was_held = true; changed = call }
+state_of_write bytes call = record { now = Some bytes; was_held = true; changed = call; late = false }
 
 -- after a write that failed
 abbrev pub state_of_failed_write : Option FileState → ℕ → FileState
-state_of_failed_write None call = record { now = None; was_held = false; changed = call }
-state_of_failed_write (Some s) call = record { now = s.now; was_held = s.was_held; changed = call }
+state_of_failed_write None call = record { now = None; was_held = false; changed = call; late = false }
+state_of_failed_write (Some s) call = record { now = s.now; was_held = s.was_held; changed = call; late = s.late }
 
 -- after a removal, and after one that failed: a path that was never held stays as it is
 abbrev pub state_of_removal : FileState → ℕ → FileState
-state_of_removal s call = record { now = None; was_held = s.was_held; changed = cond s.was_held call s.changed }
+state_of_removal s call =
+    record { now = None; was_held = s.was_held; changed = cond s.was_held call s.changed; late = s.late }
 
 abbrev pub state_of_failed_removal : FileState → ℕ → FileState
-state_of_failed_removal s call = record { now = s.now; was_held = s.was_held; changed = cond s.was_held call s.changed }
+state_of_failed_removal s call =
+    record { now = s.now; was_held = s.was_held; changed = cond s.was_held call s.changed; late = s.late }
+
+-- From the stop on, where all calls fail, no number is kept.
+abbrev pub state_of_late_write : Option FileState → FileState
+state_of_late_write None = record { now = None; was_held = false; changed = 0; late = true }
+state_of_late_write (Some s) = record { now = s.now; was_held = s.was_held; changed = s.changed; late = true }
+
+abbrev pub state_of_late_removal : FileState → FileState
+state_of_late_removal s =
+    record { now = s.now; was_held = s.was_held; changed = s.changed; late = cond s.was_held true s.late }
+
+-- after this call, which fails, in a store whose calls all fail from the stop on
+abbrev pub state_of_write_fault : ℕ → ℕ → Option FileState → FileState
+state_of_write_fault call stop o = cond (nat_lt call stop) (state_of_failed_write o call) (state_of_late_write o)
+
+abbrev pub state_of_removal_fault : ℕ → ℕ → FileState → FileState
+state_of_removal_fault call stop s = cond (nat_lt call stop) (state_of_failed_removal s call) (state_of_late_removal s)
+
+-- whether a call after this one wrote or removed a path with this state, also in vain
+abbrev pub is_changed_since : ℕ → Option FileState → Bool
+is_changed_since call None = false
+is_changed_since call (Some s) = nat_lt call s.changed || s.late
 
 -- the file of a path that may have none
 abbrev pub now_at : Option FileState → Option (List ℕ)

@@ -1,6 +1,7 @@
 // A store in memory that never fails.
-ghost use Rattle.std.specs.Prelude.{◌≡◌, IfOk, true};
+ghost use Rattle.std.specs.Prelude.{◌≡◌, IfOk, true, false, refl};
 ghost use Rattle.std.specs.FinMap as map;
+ghost use Rattle.memory_stores.specs.States.{now_of};
 ghost use Rattle.memory_stores.specs.Table.{IsEachOnce, entries_of};
 
 use crate::table::Table;
@@ -14,6 +15,7 @@ use std::marker::Model;
 #[derive(Debug, Drop)]
 pub struct SteadyStore {
     table: Table,
+    is_unsynced: bool,
 }
 
 impl Model for SteadyStore {
@@ -25,7 +27,11 @@ impl Model for SteadyStore {
 
     ghost use Rattle.memory_stores.specs.States.{now_of};
 
-    ghost view = { λ s. record { files = now_of s.table.states; spare = s.table.spare } };
+    ghost view = { λ s. record {
+      files = now_of s.table.states;
+      spare = s.table.spare;
+      is_unsynced = s.is_unsynced;
+    } };
 }
 
 impl SteadyStore {
@@ -33,9 +39,20 @@ impl SteadyStore {
     pub fn new(alloc: Global, files: Vec<(PathText, Vec<u8>)>) -> Mem<SteadyStore>
         requires each_once { IsEachOnce files.items }
         ensures files { IfOk result (λ store. store.files ≡ map.from_entries (entries_of files.items)) }
+        ensures unsynced { IfOk result (λ store. store.is_unsynced ≡ false) }
     {
-        let table = Table::new(alloc, files)?;
-        Ok(SteadyStore { table })
+        Ok(SteadyStore::of(Table::new(alloc, files)?))
+    }
+
+    // The store of this table.
+    pub(crate) fn of(table: Table) -> SteadyStore
+        ensures files { result.files ≡ now_of table.states }
+        ensures unsynced { result.is_unsynced ≡ false }
+    {
+        SteadyStore {
+            table,
+            is_unsynced: false,
+        }
     }
 }
 
@@ -49,6 +66,24 @@ impl Store for SteadyStore {
     ghost read_faults = { λ _. 0 };
 
     ghost write_faults = { λ _. 0 };
+
+    ghost is_unsynced = { λ s. s.is_unsynced };
+
+    ghost tells_images = { false };
+
+    ghost image = { λ _ _. Unit {0} };
+
+    ghost moment = { λ _. 0 };
+
+    ghost left_since = { λ _ _ _. Unit {0} };
+
+    ghost told_together = { λ _. refl };
+
+    ghost reads_are_left = { λ _. tt };
+
+    ghost only_now = { λ _ _ _. tt };
+
+    ghost counts_now = { λ _ _ _ _ _. tt };
 
     fn list(&mut self, alloc: Global, most: u32) -> Result<Vec<PathText>, StoreFault> {
         self.table.list(alloc, most)
@@ -69,15 +104,18 @@ impl Store for SteadyStore {
 
     fn write(&mut self, path: PathText, bytes: Vec<u8>) -> Result<(), Failed> {
         self.table.put(path, bytes, 0);
+        self.is_unsynced = true;
         Ok(())
     }
 
     fn remove(&mut self, path: &str) -> Result<(), Failed> {
         self.table.take(path);
+        self.is_unsynced = true;
         Ok(())
     }
 
     fn sync(&mut self) -> Result<(), Failed> {
+        self.is_unsynced = false;
         Ok(())
     }
 }

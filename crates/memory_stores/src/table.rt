@@ -1,30 +1,26 @@
-// Files in memory: rows of a path and what is known of it, in the order of the paths.
-ghost use Rattle.std.specs.Prelude.{◌≡◌, ◌≢◌, ◌≤◌, ◌<◌, ◌+◌, IsTrue, IfOk, IfErr, IfSome, OnOk};
-ghost use Rattle.std.specs.Prelude.{length, vec_len, vec_capacity};
-ghost use Rattle.std.specs.Option.{option_map, is_some};
-ghost use Rattle.std.specs.Ordering.{nat_cmp};
-ghost use Rattle.std.specs.Cmp.Lexicographic.{slice_cmp};
+// Files in memory: what is known of each path.
+ghost use Rattle.std.specs.Prelude.{◌≡◌, ◌≢◌, ◌≤◌, ◌<◌, ◌+◌, IfOk, IfSome, OnOk, None, vec_len};
+ghost use Rattle.std.specs.Option.{option_map};
 ghost use Rattle.std.specs.FinMap as map;
 ghost use Rattle.rw_host.specs.Files.{first_bytes, IsInOrder};
-ghost use Rattle.memory_stores.specs.States.{state_of_write, state_of_failed_write, state_of_removal};
-ghost use Rattle.memory_stores.specs.States.{state_of_failed_removal, change_state, now_of};
+ghost use Rattle.memory_stores.specs.States.{state_of_write, state_of_failed_write, state_of_late_write};
+ghost use Rattle.memory_stores.specs.States.{state_of_removal, state_of_failed_removal, state_of_late_removal};
+ghost use Rattle.memory_stores.specs.States.{change_state, now_of};
 ghost use Rattle.memory_stores.specs.Table.{IsEachOnce, initial_states};
-ghost use Rattle.memory_stores.specs.Rows.{row_entries, are_in_order, states_of};
-ghost use Rattle.memory_stores.specs.Rows.{IsPlaceOf, IsGapFor, IsPut, IsTaken, IsChanged};
+ghost use Rattle.memory_stores.specs.Past.{StatesGoBack, past_by};
+ghost use Rattle.memory_stores.specs.Picked.{picked_entries, last_states};
 
+use crate::crash::picked_rows;
+use crate::row::{
+    FileRow, empty_row, first_bytes, has_file, mark_row, mark_row_late, order_of, put_row, rows_of,
+    search, state_of_write, take_row, touch_row, touch_row_late,
+};
 use crate::state::FileState;
-use rw_base::{Mem, Text};
+use crate::undo::Undo;
+use rw_base::Mem;
 use rw_host::{PathText, StoreFault};
 use std::alloc::Global;
-use std::cmp::Ordering;
 use std::marker::Model;
-
-// A path and what is known of it.
-#[derive(Debug, Drop)]
-pub(crate) struct FileRow {
-    path: PathText,
-    state: FileState,
-}
 
 // Files in memory. Contracts see the map from paths to what is known of them, and for how many more paths there is
 // room.
@@ -46,141 +42,6 @@ impl Model for Table {
     ghost view = { λ t. record { states = states_of t.rows.items; spare = vec_capacity t.rows - vec_len t.rows } };
 
     ghost invariant = { λ t. IsTrue (are_in_order t.rows.items) };
-}
-
-// How a row stands to a path in the order of paths.
-fn order_of(row: &FileRow, path: &str) -> Ordering
-    ensures { result ≡ slice_cmp nat_cmp row.now.path path.now }
-{
-    row.path.as_str().cmp(path)
-}
-
-fn has_file(row: &FileRow) -> bool
-    ensures { result ≡ is_some row.now.state.now }
-{
-    row.state.now.is_some()
-}
-
-fn rows_of(alloc: Global, files: Vec<(PathText, Vec<u8>)>) -> Mem<Vec<FileRow>>
-    ensures { IfOk result (λ rows. row_entries rows.items ≡ initial_states files.items) }
-{
-    let mut rows = Vec::with_capacity(alloc, files.len())?;
-    for (path, bytes) in files {
-        rows.push(FileRow {
-            path,
-            state: state_of_write(bytes, 0),
-        })?;
-    }
-    Ok(rows)
-}
-
-// A file with these bytes, put there by this call.
-fn state_of_write(bytes: Vec<u8>, call: u32) -> FileState
-    ensures { result ≡ state_of_write bytes.items call }
-{
-    FileState {
-        now: Some(Text::from_vec(bytes)),
-        was_held: true,
-        changed: call,
-    }
-}
-
-// Where the row with this path is, or where it would go.
-fn search(rows: &[FileRow], path: &str) -> Result<usize, usize>
-    requires { IsTrue (are_in_order rows.now) }
-    ensures found { IfOk result (IsPlaceOf rows.now path.now) }
-    ensures absent { IfErr result (IsGapFor rows.now path.now) }
-{
-    rows.binary_search_by(|row| order_of(row, path))
-}
-
-// Puts a row at the place of its path.
-fn put_row(rows: &mut Vec<FileRow>, row: FileRow)
-    requires sorted { IsTrue (are_in_order rows.old.items) }
-    requires room { vec_len rows.old < vec_capacity rows.old }
-    ensures put { IsPut rows.old.items row.path row.state rows.new.items }
-    ensures len { vec_len rows.new ≤ vec_len rows.old + 1 }
-    ensures capacity { vec_capacity rows.old ≤ vec_capacity rows.new }
-{
-    match search(rows, row.path.as_str()) {
-        Ok(at) => rows[at] = row,
-        Err(at) => {
-            let put = rows.insert(at, row);
-            prove!(put.is_ok());
-        }
-    }
-}
-
-// Notes a write of this path that failed.
-fn touch_row(rows: &mut Vec<FileRow>, path: PathText, call: u32)
-    requires sorted { IsTrue (are_in_order rows.old.items) }
-    requires room { vec_len rows.old < vec_capacity rows.old }
-    ensures put { let state = state_of_failed_write (map.get (states_of rows.old.items) path) call in
-        IsPut rows.old.items path state rows.new.items }
-    ensures len { vec_len rows.new ≤ vec_len rows.old + 1 }
-    ensures capacity { vec_capacity rows.old ≤ vec_capacity rows.new }
-{
-    match search(rows, path.as_str()) {
-        Ok(at) => {
-            let row = &mut rows[at];
-            row.state.changed = call;
-        }
-        Err(at) => {
-            let state = FileState {
-                now: None,
-                was_held: false,
-                changed: call,
-            };
-            let put = rows.insert(at, FileRow { path, state });
-            prove!(put.is_ok());
-        }
-    }
-}
-
-// Takes the row with this path away.
-fn take_row(rows: &mut Vec<FileRow>, path: &str)
-    requires { IsTrue (are_in_order rows.old.items) }
-    ensures taken { IsTaken rows.old.items path.now rows.new.items }
-    ensures len { vec_len rows.new ≤ vec_len rows.old }
-    ensures capacity { vec_capacity rows.old ≤ vec_capacity rows.new }
-{
-    if let Ok(at) = search(rows, path) {
-        rows.remove(at);
-    }
-}
-
-// Removes the file with this path, and keeps the row.
-fn empty_row(rows: &mut Vec<FileRow>, path: &str, call: u32)
-    requires { IsTrue (are_in_order rows.old.items) }
-    ensures changed { IsChanged rows.old.items path.now (λ state. state_of_removal state call) rows.new.items }
-    ensures len { vec_len rows.new ≤ vec_len rows.old }
-    ensures capacity { vec_capacity rows.old ≤ vec_capacity rows.new }
-{
-    if let Ok(at) = search(rows, path) {
-        let row = &mut rows[at];
-        row.state.remove(call);
-    }
-}
-
-// Notes a removal of this path that failed.
-fn mark_row(rows: &mut Vec<FileRow>, path: &str, call: u32)
-    requires { IsTrue (are_in_order rows.old.items) }
-    ensures changed { IsChanged rows.old.items path.now (λ state. state_of_failed_removal state call) rows.new.items }
-    ensures len { vec_len rows.new ≤ vec_len rows.old }
-    ensures capacity { vec_capacity rows.old ≤ vec_capacity rows.new }
-{
-    if let Ok(at) = search(rows, path) {
-        let row = &mut rows[at];
-        row.state.mark(call);
-    }
-}
-
-// The first `most` bytes.
-fn first_bytes(bytes: &[u8], most: u32) -> &[u8]
-    ensures bytes { result.now ≡ first_bytes most bytes.now }
-    ensures at_most { length result.now ≤ most }
-{
-    &bytes[..bytes.len().min(most as usize)]
 }
 
 impl Table {
@@ -278,6 +139,16 @@ impl Table {
         Ok(Some(first))
     }
 
+    // The table of an image that a crash may leave, where the calls left this log, and the last sync had this number.
+    pub(crate) fn picked(&self, alloc: Global, log: &[Undo], sync: u32, pick: u32) -> Mem<Table>
+        ensures { let last = last_states (past_by log.now self.now.states) in
+            let files = picked_entries sync last pick (map.entries self.now.states) in
+            IfOk result (λ table. now_of table.states ≡ map.from_sorted files) }
+    {
+        let rows = picked_rows(alloc, &self.rows, log, sync, pick)?;
+        Ok(Table { rows })
+    }
+
     // Makes room for this many rows more.
     pub(crate) fn reserve(&mut self, rows: u32) -> Mem<()>
         ensures states { self.new.states ≡ self.old.states }
@@ -288,24 +159,37 @@ impl Table {
         Ok(())
     }
 
-    // Puts the file in place of the one that has the path, or as a new one.
-    pub(crate) fn put(&mut self, path: PathText, bytes: Vec<u8>, call: u32)
+    // Puts the file in place of the one that has the path, or as a new one, and tells how to go back.
+    pub(crate) fn put(&mut self, path: PathText, bytes: Vec<u8>, call: u32) -> Option<Undo>
         requires { 1 ≤ self.old.spare }
         ensures states { self.new.states ≡ map.insert self.old.states path (state_of_write bytes.items call) }
+        ensures past { StatesGoBack result self.old.states self.new.states }
         ensures spare { self.old.spare ≤ self.new.spare + 1 }
     {
         let state = state_of_write(bytes, call);
-        put_row(&mut self.rows, FileRow { path, state });
+        put_row(&mut self.rows, FileRow { path, state })
     }
 
     // Notes a write of this path that failed.
-    pub(crate) fn touch(&mut self, path: PathText, call: u32)
+    pub(crate) fn touch(&mut self, path: PathText, call: u32) -> Option<Undo>
         requires { 1 ≤ self.old.spare }
         ensures states { let state = state_of_failed_write (map.get self.old.states path) call in
             self.new.states ≡ map.insert self.old.states path state }
+        ensures past { StatesGoBack result self.old.states self.new.states }
         ensures spare { self.old.spare ≤ self.new.spare + 1 }
     {
-        touch_row(&mut self.rows, path, call);
+        touch_row(&mut self.rows, path, call)
+    }
+
+    // Notes a write of this path from the stop on.
+    pub(crate) fn touch_late(&mut self, path: PathText) -> Option<Undo>
+        requires { 1 ≤ self.old.spare }
+        ensures states { let state = state_of_late_write (map.get self.old.states path) in
+            self.new.states ≡ map.insert self.old.states path state }
+        ensures past { StatesGoBack result self.old.states self.new.states }
+        ensures spare { self.old.spare ≤ self.new.spare + 1 }
+    {
+        touch_row_late(&mut self.rows, path)
     }
 
     // Forgets this path.
@@ -316,21 +200,32 @@ impl Table {
         take_row(&mut self.rows, path);
     }
 
-    // Removes the file with this path.
-    pub(crate) fn empty(&mut self, path: &str, call: u32)
+    // Removes the file with this path, and tells how to go back.
+    pub(crate) fn empty(&mut self, path: &str, call: u32) -> Option<Undo>
         ensures states { self.new.states ≡
             change_state self.old.states path.now (λ state. state_of_removal state call) }
+        ensures past { StatesGoBack result self.old.states self.new.states }
         ensures spare { self.old.spare ≤ self.new.spare }
     {
-        empty_row(&mut self.rows, path, call);
+        empty_row(&mut self.rows, path, call)
     }
 
     // Notes a removal of this path that failed.
-    pub(crate) fn mark(&mut self, path: &str, call: u32)
+    pub(crate) fn mark(&mut self, path: &str, call: u32) -> Option<Undo>
         ensures states { self.new.states ≡
             change_state self.old.states path.now (λ state. state_of_failed_removal state call) }
+        ensures past { StatesGoBack result self.old.states self.new.states }
         ensures spare { self.old.spare ≤ self.new.spare }
     {
-        mark_row(&mut self.rows, path, call);
+        mark_row(&mut self.rows, path, call)
+    }
+
+    // Notes a removal of this path from the stop on.
+    pub(crate) fn mark_late(&mut self, path: &str)
+        ensures states { self.new.states ≡ change_state self.old.states path.now state_of_late_removal }
+        ensures past { StatesGoBack None self.old.states self.new.states }
+        ensures spare { self.old.spare ≤ self.new.spare }
+    {
+        mark_row_late(&mut self.rows, path);
     }
 }

@@ -4,4 +4,4 @@ use Rattle.memory_stores.proofs.Now.{now_given}
 use Rattle.memory_stores.proofs.steady.SteadyStore.new.Goals as goal
 
 pub returns : goal.returns
-returns c = record { files = ap now_of c.in_ok-table.ensures ∙ now_given c.args.files.items }
+returns c = record { files = c.of.ensures.files ∙ ap now_of c.in_ok-new.ensures ∙ now_given c.args.files.items; unsynced = c.of.ensures.unsynced }
