@@ -1,0 +1,5 @@
+pub mod Committing
+pub mod Images
+pub mod Order
+pub mod Reading
+pub mod Repositories
