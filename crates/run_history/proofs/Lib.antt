@@ -1,0 +1,4 @@
+pub mod Fields
+pub mod ReaderSteps
+pub mod Rows
+pub mod Written

@@ -1,0 +1,5 @@
+pub mod History
+pub mod Faults
+pub mod Reader
+pub mod Said
+pub mod Writer
