@@ -1,10 +1,14 @@
-pub mod WordSteps
 pub mod FoundInFile
 pub mod Walked
 pub mod SourceSteps
 pub mod PlanSteps
 pub mod Merging
-pub mod Written
+pub mod Batches
+pub mod CommitSteps
+pub mod HistorySteps
+pub mod JournalSteps
+pub mod Idling
+pub mod Moments
 pub mod ReportSteps
 pub mod Answering
 pub mod Performing

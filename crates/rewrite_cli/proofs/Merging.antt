@@ -8,8 +8,7 @@ use Rattle.kept_files.specs.States.{State}
 use Rattle.kept_files.specs.declared.file.KeptFile.{KeptFile}
 use Rattle.rewrite_cli.specs.declared.changes.Change.{Change}
 use Rattle.rewrite_cli.specs.declared.changes.Change.TheVariants.{Created, Removed}
-use Rattle.rewrite_cli.specs.declared.changes.Entry.{Entry}
-use Rattle.rewrite_cli.specs.Changes.{changed_to, against, changes, entry_of, entries_of}
+use Rattle.rewrite_cli.specs.Changes.{changed_to, against, changes}
 
 cut : {A : Type 0} (xs : List A) (i : ℕ) (d : A) → i < length xs → drop i xs ≡ get_or xs i d ∷ drop (i + 1) xs
 cut xs i d lt = drop-cons xs i d lt ∙ rw add-one refl
@@ -98,19 +97,3 @@ last_done fs gs i j out all le h =
     ∙ (sym (ap (λ xs. out ++ changes (drop i fs) xs) (drop_all j gs le)) ∙ h)))
 
 pub ruleset steps = (less, equal, greater, first_done, last_done)
-
--- ---- entries
-
-pub entries_more : (cs : List Change) (i : ℕ) (c : Change) (out more all : List Entry) → i < length cs → c ≡ get_or cs i c → more ≡ out ++ entry_of c → out ++ entries_of (drop i cs) ≡ all
-    → more ++ entries_of (drop (i + 1) cs) ≡ all
-unfolding entries_of
-entries_more cs i c out more all lt is e h =
-    ap (λ es. es ++ entries_of (drop (i + 1) cs)) e
-    ∙ (append_assoc out (entry_of c) (entries_of (drop (i + 1) cs))
-    ∙ (sym (ap (λ xs. out ++ entries_of xs) (cut cs i c lt ∙ ap (λ y. y ∷ drop (i + 1) cs) (sym is))) ∙ h))
-
-pub entries_end : (cs : List Change) (i : ℕ) (out all : List Entry) → length cs ≤ i → out ++ entries_of (drop i cs) ≡ all → out ≡ all
-unfolding entries_of
-entries_end cs i out all le h = sym (ap (λ xs. out ++ entries_of xs) (drop_all i cs le) ∙ append-nil out) ∙ h
-
-pub ruleset entries = (entries_more, entries_end)

@@ -107,6 +107,11 @@ module _ {A : Type 0} where
   tells_limit l (Ok a) = tt
   tells_limit l (Err f) = tt
 
+  pub tells_damage : (line : List ℕ) (r : Result A RecipeFault) → TellsFault r (stop.Damaged line)
+  unfolding TellsFault IsToldBy
+  tells_damage line (Ok a) = tt
+  tells_damage line (Err f) = tt
+
   pub tells_fault : (r : Result A RecipeFault) (f : RecipeFault) (s : Stop) → r ≡ Err f → IsToldBy f s → TellsFault r s
   unfolding TellsFault
   tells_fault r f s e t = rw e t
@@ -168,6 +173,7 @@ module _ (meanings : Meanings) (files : Files) (name : List ℕ) (found : Option
   no_book_by (Ok book) stop.WriteFault t = tells_write (plan_of meanings.key_paths book name)
   no_book_by (Ok book) stop.NoMemory t = tells_memory (plan_of meanings.key_paths book name)
   no_book_by (Ok book) (stop.Limit l) t = tells_limit l (plan_of meanings.key_paths book name)
+  no_book_by (Ok book) (stop.Damaged line) t = tells_damage line (plan_of meanings.key_paths book name)
 
   pub no_plan : (s : Stop) → TellsFault (book_by meanings.read found) s → TellsFault (plan_in meanings files name) s
   unfolding plan_in
@@ -180,9 +186,11 @@ no_file (Ok a) stop.ReadFault i = tt
 no_file (Ok a) stop.WriteFault i = tt
 no_file (Ok a) stop.NoMemory i = tt
 no_file (Ok a) (stop.Limit l) i = tt
+no_file (Ok a) (stop.Damaged line) i = tt
 no_file (Err f) stop.ReadFault i = tt
 no_file (Err f) stop.WriteFault i = tt
 no_file (Err f) stop.NoMemory i = tt
 no_file (Err f) (stop.Limit l) i = tt
+no_file (Err f) (stop.Damaged line) i = tt
 
 pub ruleset plans = (good_plan, bad_plan, no_plan, no_file)

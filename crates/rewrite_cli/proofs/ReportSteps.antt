@@ -17,7 +17,7 @@ use Rattle.rewrite_cli.specs.declared.report.ChangeKind.{ChangeKind}
 use Rattle.rewrite_cli.specs.declared.report.ChangeKind.TheVariants as kind
 use Rattle.rewrite_cli.specs.Answers.{tells}
 use Rattle.rewrite_cli.specs.Changes.{changes}
-use Rattle.rewrite_cli.specs.Words.{Asked}
+use Rattle.command_words.specs.Words.{Asked}
 use Rattle.rewrite_cli.specs.Checking.{refused_line}
 use Rattle.rewrite_cli.specs.Report.{has_kind, count_of, count_read_in, number_line, text_line, change_line, change_lines, drop_name, dropped_line, event_line, event_lines, still_line, head_lines, count_lines, report}
 use Rattle.rewrite_cli.specs.Running.{Ran, refusals}

@@ -1,5 +1,5 @@
 -- The source files of a repository, found one after another.
-use Rattle.std.proofs.Common.{◌≡◌, ℕ, ◌<◌, ◌≤◌, ◌+◌, ◌++◌, true, false, List, [], ◌∷◌, Option, None, Some, refl, sym, ap, subst, ◌∙◌, append_assoc, append-nil}
+use Rattle.std.proofs.Common.{◌≡◌, ◌⊎◌, inl, inr, ◌||◌, nat_lt, Bool, ℕ, ◌<◌, ◌≤◌, ◌+◌, ◌++◌, true, false, List, [], ◌∷◌, Option, None, Some, refl, sym, ap, subst, ◌∙◌, append_assoc, append-nil}
 use Rattle.std.specs.Option.{option_map}
 use Rattle.std.specs.FinMap as map
 use Rattle.std.specs.List.{AllByRecursion}
@@ -99,40 +99,49 @@ pub ruleset found_at = (other_at, unread_at, absent_at, there_at, order_without,
 
 -- ---- limits
 
-module _ (files : Files) where
-  pub no_limit : map.len files ≤ MOST_PATHS → count_read (map.keys files) ≤ MOST_FILES → bytes_read files (map.keys files) ≤ MOST_IN_ALL → limit_of files ≡ None
-  unfolding limit_of
-  no_limit p f b = rw (le-ltb MOST_PATHS (map.len files) p, le-ltb MOST_FILES (count_read (map.keys files)) f, le-ltb MOST_IN_ALL (bytes_read files (map.keys files)) b) refl
+or_true : (b : Bool) → (b || true) ≡ true
+or_true true = refl
+or_true false = refl
 
-  pub past_paths : MOST_PATHS < map.len files → limit_of files ≡ Some limit.Paths
+module _ (listed files : Files) where
+  pub no_limit : map.len listed ≤ MOST_PATHS → map.len files ≤ MOST_PATHS → count_read (map.keys files) ≤ MOST_FILES → bytes_read files (map.keys files) ≤ MOST_IN_ALL → limit_of listed files ≡ None
   unfolding limit_of
-  past_paths p = rw (lt-ltb MOST_PATHS (map.len files) p) refl
+  no_limit l p f b =
+      rw (le-ltb MOST_PATHS (map.len listed) l, le-ltb MOST_PATHS (map.len files) p, le-ltb MOST_FILES (count_read (map.keys files)) f, le-ltb MOST_IN_ALL (bytes_read files (map.keys files)) b) refl
 
-  pub past_files : map.len files ≤ MOST_PATHS → MOST_FILES < count_read (map.keys files) → limit_of files ≡ Some limit.Files
+  pub past_paths : (MOST_PATHS < map.len listed) ⊎ (MOST_PATHS < map.len files) → limit_of listed files ≡ Some limit.Paths
   unfolding limit_of
-  past_files p f = rw (le-ltb MOST_PATHS (map.len files) p, lt-ltb MOST_FILES (count_read (map.keys files)) f) refl
+  past_paths (inl l) = rw (lt-ltb MOST_PATHS (map.len listed) l) refl
+  past_paths (inr p) = rw (lt-ltb MOST_PATHS (map.len files) p, or_true (nat_lt MOST_PATHS (map.len listed))) refl
 
-  pub past_bytes : map.len files ≤ MOST_PATHS → count_read (map.keys files) ≤ MOST_FILES → MOST_IN_ALL < bytes_read files (map.keys files) → limit_of files ≡ Some limit.Bytes
+  pub past_files : map.len listed ≤ MOST_PATHS → map.len files ≤ MOST_PATHS → MOST_FILES < count_read (map.keys files) → limit_of listed files ≡ Some limit.Files
   unfolding limit_of
-  past_bytes p f b = rw (le-ltb MOST_PATHS (map.len files) p, le-ltb MOST_FILES (count_read (map.keys files)) f, lt-ltb MOST_IN_ALL (bytes_read files (map.keys files)) b) refl
+  past_files l p f =
+      rw (le-ltb MOST_PATHS (map.len listed) l, le-ltb MOST_PATHS (map.len files) p, lt-ltb MOST_FILES (count_read (map.keys files)) f) refl
+
+  pub past_bytes : map.len listed ≤ MOST_PATHS → map.len files ≤ MOST_PATHS → count_read (map.keys files) ≤ MOST_FILES → MOST_IN_ALL < bytes_read files (map.keys files) → limit_of listed files ≡ Some limit.Bytes
+  unfolding limit_of
+  past_bytes l p f b =
+      rw (le-ltb MOST_PATHS (map.len listed) l, le-ltb MOST_PATHS (map.len files) p, le-ltb MOST_FILES (count_read (map.keys files)) f, lt-ltb MOST_IN_ALL (bytes_read files (map.keys files)) b) refl
 
   -- a list of paths that is that of all
-  module _ (ps : List (List ℕ)) (is : ps ≡ map.keys files) (p : map.len files ≤ MOST_PATHS) (f : count_read (map.keys files) ≤ MOST_FILES) where
-    pub all_in_limit : bytes_read files ps ≤ MOST_IN_ALL → limit_of files ≡ None
-    all_in_limit b = no_limit p f (subst (λ xs. bytes_read files xs ≤ MOST_IN_ALL) is b)
+  module _ (ps : List (List ℕ)) (is : ps ≡ map.keys files) (l : map.len listed ≤ MOST_PATHS) (p : map.len files ≤ MOST_PATHS) (f : count_read (map.keys files) ≤ MOST_FILES) where
+    pub all_in_limit : bytes_read files ps ≤ MOST_IN_ALL → limit_of listed files ≡ None
+    all_in_limit b = no_limit l p f (subst (λ xs. bytes_read files xs ≤ MOST_IN_ALL) is b)
 
-    pub all_past : (l : Limit) → (l ≡ limit.Bytes) × (MOST_IN_ALL < bytes_read files ps) → limit_of files ≡ Some l
-    all_past l b = past_bytes p f (subst (λ xs. MOST_IN_ALL < bytes_read files xs) is b.1) ∙ ap Some (sym b.0)
+    pub all_past : (passed : Limit) → (passed ≡ limit.Bytes) × (MOST_IN_ALL < bytes_read files ps) → limit_of listed files ≡ Some passed
+    all_past passed b = past_bytes l p f (subst (λ xs. MOST_IN_ALL < bytes_read files xs) is b.1) ∙ ap Some (sym b.0)
 
-    pub all_files : (found : List SourceFile) → found ≡ sources_at files ps → found ≡ sources_of files
-    unfolding sources_of
-    all_files found e = e ∙ ap (sources_at files) is
+pub all_files : (files : Files) (ps : List (List ℕ)) (found : List SourceFile) → ps ≡ map.keys files → found ≡ sources_at files ps → found ≡ sources_of files
+unfolding sources_of
+all_files files ps found is e = e ∙ ap (sources_at files) is
 
 -- a list of paths that was too long
-pub too_many : (files : Files) (f : StoreFault) (s : Stop) (l : Limit) → s ≡ stop_of f → (f ≡ fault.TooMany → MOST_PATHS < map.len files) → s ≡ stop.Limit l → limit_of files ≡ Some l
-too_many files fault.Failed s l e h i = absurd (cc)
-too_many files fault.TooMany s l e h i = past_paths files (h refl) ∙ ap Some (let same : stop.Limit limit.Paths ≡ stop.Limit l = sym e ∙ i in cc)
-too_many files fault.NoMemory s l e h i = absurd (cc)
+pub too_many : (listed files : Files) (f : StoreFault) (s : Stop) (l : Limit) → s ≡ stop_of f
+    → (f ≡ fault.TooMany → (MOST_PATHS < map.len listed) ⊎ (MOST_PATHS < map.len files)) → s ≡ stop.Limit l → limit_of listed files ≡ Some l
+too_many listed files fault.Failed s l e h i = absurd (cc)
+too_many listed files fault.TooMany s l e h i = past_paths listed files (h refl) ∙ ap Some (let same : stop.Limit limit.Paths ≡ stop.Limit l = sym e ∙ i in cc)
+too_many listed files fault.NoMemory s l e h i = absurd (cc)
 
 pub ruleset all_listed = (past_paths, past_files, read_fault, no_memory, limit_passed, store_stop)
 

@@ -1,16 +1,16 @@
--- What two states differ in, and files with such changes made.
-use Rattle.std.specs.Prelude.{◌≡◌, ℕ, ◌<◌, List, [], ◌∷◌, ◌++◌, length, take, map as map_list, slice_index_or}
-use Rattle.std.specs.Prelude.{Option, None, Some, ◌⊎◌, if◌then◌else◌}
+-- What two states differ in, and the batch of changes that is written for it.
+use Rattle.std.specs.Prelude.{ℕ, Bool, true, false, ◌||◌, List, [], ◌∷◌, ◌++◌, map as map_list}
+use Rattle.std.specs.Prelude.{Option, None, Some, if◌then◌else◌}
+use Rattle.std.specs.Str.{bytes_eq}
 use Rattle.std.specs.Ordering.{nat_cmp, match_ordering}
 use Rattle.std.specs.Cmp.Lexicographic.{slice_cmp}
-use Rattle.std.specs.FinMap as map
-use Rattle.rw_host.specs.Files.{Files, SameElsewhere}
+use Rattle.journal_text.specs.Changes.{Change as Written, gate, journal}
 use Rattle.kept_files.specs.States.{State}
 use Rattle.kept_files.specs.declared.file.KeptFile.{KeptFile}
 use Rattle.scheduler.specs.Runs.{same_bytes}
+use Rattle.rewrite_cli.specs.Histories.{history_path}
 use Rattle.rewrite_cli.specs.declared.changes.Change.{Change}
 use Rattle.rewrite_cli.specs.declared.changes.Change.TheVariants.{Created, Changed, Removed}
-use Rattle.rewrite_cli.specs.declared.changes.Entry.{Entry}
 
 -- ---- from a state to a later one, in the order of paths
 
@@ -30,43 +30,36 @@ changes (f ∷ fs) gs = against f (changes fs) gs
 
 -- ---- what is written
 
--- bytes to be put at a path, or none where the file goes
-abbrev pub put_at : List ℕ → Option (List ℕ) → List Entry
+-- the gate, the journal and the history are no files of recipes
+abbrev pub is_kept_out : List ℕ → Bool
+is_kept_out path = bytes_eq path gate || bytes_eq path journal || bytes_eq path history_path
+
+abbrev pub file_of : Change → KeptFile
+file_of (Created f) = f
+file_of (Changed f) = f
+file_of (Removed f) = f
+
+abbrev pub is_removal : Change → Bool
+is_removal (Removed f) = true
+is_removal _ = false
+
+-- Bytes are put at the path of a file, or the file there goes. Where the bytes aren't known it stays.
+abbrev pub put_at : List ℕ → Option (List ℕ) → List Written
 put_at path None = []
-put_at path (Some bytes) = record { path = path; bytes = Some bytes } ∷ []
+put_at path (Some bytes) = (path, Some bytes) ∷ []
 
-abbrev pub entry_of : Change → List Entry
-entry_of (Created f) = put_at f.path f.bytes
-entry_of (Changed f) = put_at f.path f.bytes
-entry_of (Removed f) = record { path = f.path; bytes = None } ∷ []
+abbrev pub written_at : KeptFile → Bool → List Written
+written_at f removed = if removed then (f.path, None) ∷ [] else put_at f.path f.bytes
 
-unfoldable pub entries_of : List Change → List Entry
-entries_of [] = []
-entries_of (c ∷ cs) = entry_of c ++ entries_of cs
+unfoldable pub kept_for : Change → List Written
+kept_for c = if is_kept_out (file_of c).path then [] else written_at (file_of c) (is_removal c)
 
-abbrev pub with_bytes : Files → List ℕ → Option (List ℕ) → Files
-with_bytes files path None = map.remove files path
-with_bytes files path (Some bytes) = map.insert files path bytes
+-- what is written for these changes, in the order of paths
+unfoldable pub batch_of : List Change → List Written
+batch_of [] = []
+batch_of (c ∷ cs) = kept_for c ++ batch_of cs
 
-abbrev pub with_entry : Entry → Files → Files
-with_entry e files = with_bytes files e.path e.bytes
-
--- the files with these entries, the first of them first
-unfoldable pub with_entries : List Entry → Files → Files
-with_entries [] files = files
-with_entries (e ∷ es) files = with_entries es (with_entry e files)
-
--- ---- a run that was stopped
-
-abbrev pub no_entry : Entry
-no_entry = record { path = []; bytes = None }
-
--- After so many of the entries, the next one failed: other paths are as after those before it.
-pub record StopsAt (entries : List Entry) (before after : Files) (made : ℕ) : Type 0 where
-  pub some_left : made < length entries
-  pub others : SameElsewhere (slice_index_or entries made no_entry).path (with_entries (take made entries) before) after
-
--- A run stopped among its entries: all were made, or the first ones, and only the path of the next may have another
--- file than before.
-abbrev pub IsPart : List Entry → Files → Files → Type 0
-IsPart entries before after = (after ≡ with_entries entries before) ⊎ ((made : ℕ) × StopsAt entries before after made)
+-- one more among them, before the first whose path isn't smaller
+unfoldable pub batch_with : Written → List Written → List Written
+batch_with w [] = w ∷ []
+batch_with w (x ∷ xs) = match_ordering (slice_cmp nat_cmp x.0 w.0) (x ∷ batch_with w xs) (w ∷ x ∷ xs) (w ∷ x ∷ xs)

@@ -1,7 +1,7 @@
-pub mod Words
-pub mod Asking
 pub mod Sources
 pub mod Limits
+pub mod Journals
+pub mod Histories
 pub mod Meanings
 pub mod Opening
 pub mod Running
@@ -10,4 +10,6 @@ pub mod Checking
 pub mod Report
 pub mod Answers
 pub mod Statuses
+pub mod Moments
 pub mod Ends
+pub mod Prepared

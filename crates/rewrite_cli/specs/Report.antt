@@ -13,7 +13,7 @@ use Rattle.rewrite_cli.specs.declared.report.ChangeKind.TheVariants as kind
 use Rattle.rewrite_cli.specs.Changes.{changes}
 use Rattle.rewrite_cli.specs.Checking.{name_of, refused_line}
 use Rattle.rewrite_cli.specs.Running.{Ran}
-use Rattle.rewrite_cli.specs.Words.{Asked}
+use Rattle.command_words.specs.Words.{Asked}
 
 -- ---- numbers
 

@@ -1,5 +1,5 @@
 -- How a recipe ends over a repository.
-use Rattle.std.specs.Prelude.{ℕ, Bool, List, [], ◌++◌, Option, None, Some, Result, Ok, Err}
+use Rattle.std.specs.Prelude.{ℕ, Bool, List, [], ◌++◌, Result, Ok, Err}
 use Rattle.std.specs.List.{flat_map}
 use Rattle.rw_host.specs.Files.{Files}
 use Rattle.kept_files.specs.Readings.{Reads}
@@ -10,10 +10,9 @@ use Rattle.scheduler.specs.declared.event.Event.{Event}
 use Rattle.scheduler.specs.Runs.{Run, run, Reached, end, too_much, reached, refusal_of}
 use Rattle.rewrite_cli.specs.declared.limits.Limit.{Limit}
 use Rattle.rewrite_cli.specs.declared.limits.Limit.TheVariants as limit
-use Rattle.rewrite_cli.specs.Limits.{limit_of}
 use Rattle.rewrite_cli.specs.Meanings.{Meanings}
 use Rattle.rewrite_cli.specs.Opening.{opening, plan_in}
-use Rattle.rewrite_cli.specs.Words.{Asked}
+use Rattle.command_words.specs.Words.{Asked}
 
 -- A run: the states that it opens and ends in, what it tells of files, how many cycles there were, and whether only
 -- their number forbids another.
@@ -52,11 +51,7 @@ unfoldable pub ended_by : Reads → ℕ → State → Result Plan RecipeFault �
 ended_by read cycles first (Err f) = fault f
 ended_by read cycles first (Ok plan) = run_by first (run read plan cycles first)
 
-abbrev pub within : Option Limit → Ends → Ends
-within (Some l) ends = past l
-within None ends = ends
-
--- Limits of the repository come first, then faults, then the limit of a step.
+-- How a recipe ends over a repository within its limits: faults come first, then the limit of a step.
 unfoldable pub ended : Meanings → Files → Asked → Ends
-ended meanings files asked = within (limit_of files)
-    (ended_by meanings.read asked.cycles (opening meanings.read files) (plan_in meanings files asked.recipe))
+ended meanings files asked =
+    ended_by meanings.read asked.cycles (opening meanings.read files) (plan_in meanings files asked.recipe)

@@ -8,20 +8,17 @@ use Rattle.rewrite_cli.specs.declared.stop.Done.{Done}
 use Rattle.rewrite_cli.specs.declared.stop.Stop.{Stop}
 use Rattle.rewrite_cli.specs.declared.stop.Stop.TheVariants as stop
 use Rattle.rewrite_cli.specs.Limits.{limit_line}
-use Rattle.rewrite_cli.specs.Changes.{changes, entries_of, IsPart}
-use Rattle.rewrite_cli.specs.Meanings.{Meanings}
-use Rattle.rewrite_cli.specs.Running.{Ends, ran, ended}
-use Rattle.rewrite_cli.specs.Words.{Command, apply}
 use Rattle.rewrite_cli.specs.Answers.{Answer, done, fault_line}
+use Rattle.rewrite_cli.specs.Journals.{Journal, recovered}
 
 -- a status of the program: done, done with something told of a file, usage, recipe fault, read fault, write fault, no
--- memory, output fault, limit
+-- memory, output fault, limit, damage
 abbrev pub IsStatus : ℕ → Type 0
-IsStatus n = n ≤ 8
+IsStatus n = n ≤ 9
 
 -- a status that is the answer's: no fault came in between
 abbrev pub NamesNoFault : ℕ → Type 0
-NamesNoFault n = n ≤ 1 ⊎ n ≡ 3 ⊎ n ≡ 8
+NamesNoFault n = n ≤ 1 ⊎ (n ≡ 3 ⊎ (n ≡ 8 ⊎ n ≡ 9))
 
 -- how a fault of `list`, `read` or `reserve` ends a command
 abbrev pub stop_of : StoreFault → Stop
@@ -36,6 +33,7 @@ status_of (Err stop.ReadFault) = 4
 status_of (Err stop.WriteFault) = 5
 status_of (Err stop.NoMemory) = 6
 status_of (Err (stop.Limit l)) = 8
+status_of (Err (stop.Damaged line)) = 9
 
 abbrev pub text_of : Result Done Stop → List ℕ
 text_of (Ok d) = d.text.items
@@ -44,20 +42,20 @@ text_of (Err stop.ReadFault) = fault_line 4
 text_of (Err stop.WriteFault) = fault_line 5
 text_of (Err stop.NoMemory) = fault_line 6
 text_of (Err (stop.Limit l)) = limit_line l
+text_of (Err (stop.Damaged line)) = line
 
--- a command was done, or stopped by a fault of its recipe or by a limit, as its answer says
+-- a command was done, or stopped by a fault of its recipe, a limit or damage, as its answer says
 unfoldable pub IsAnswered : Answer → Result Done Stop → Files → Type 0
 IsAnswered a (Ok d) after = (done d.tells_of_files ≡ a.status) × ((d.text.items ≡ a.text) × (after ≡ a.left))
 IsAnswered a (Err (stop.Recipe line)) after = (3 ≡ a.status) × ((line ≡ a.text) × (after ≡ a.left))
 IsAnswered a (Err (stop.Limit l)) after = (8 ≡ a.status) × ((limit_line l ≡ a.text) × (after ≡ a.left))
+IsAnswered a (Err (stop.Damaged line)) after = (9 ≡ a.status) × ((line ≡ a.text) × (after ≡ a.left))
 IsAnswered a (Err _) after = Unit {0}
 
--- a run was stopped among its changes
-unfoldable pub IsStopped : Ends → Files → Files → Type 0
-IsStopped (ran r) before after = IsPart (entries_of (changes r.first r.last)) before after
-IsStopped _ before after = ⊥
+-- a command ended before it wrote anything but what a recovery writes
+abbrev pub IsHalted : ℕ → Type 0
+IsHalted n = n ≡ 3 ⊎ (n ≡ 4 ⊎ (n ≡ 6 ⊎ (n ≡ 8 ⊎ n ≡ 9)))
 
--- `run` was stopped among its changes; other commands write nothing
-unfoldable pub IsCommandStopped : Meanings → Files → Command → Files → Type 0
-IsCommandStopped meanings before (apply asked) after = IsStopped (ended meanings before asked) before after
-IsCommandStopped meanings before _ after = ⊥
+-- files are what they were, or what a recovery makes of them
+abbrev pub IsAsBefore : Journal → Files → Files → Type 0
+IsAsBefore opened before after = (after ≡ before) ⊎ (after ≡ recovered opened before)

@@ -1,18 +1,20 @@
 // What a run has changed, and the files that are written for it.
-ghost use Rattle.std.specs.Prelude.{◌≡◌, ◌⊎◌, ◌≤◌, ◌+◌, ◌++◌, [], length, drop, IsTrue, IfOk, IfErr, OnOk, OnErr};
-ghost use Rattle.std.specs.Prelude.{Err, vec_len};
+ghost use Rattle.std.specs.Prelude.{◌≡◌, ◌≢◌, ◌≤◌, ◌++◌, [], length, drop, true, false, Some, IfOk, OnOk};
+ghost use Rattle.std.specs.declared.cmp.Ordering.TheVariants.{Less};
 ghost use Rattle.std.specs.Ordering.{nat_cmp};
 ghost use Rattle.std.specs.Cmp.Lexicographic.{slice_cmp};
 ghost use Rattle.std.specs.Str.{bytes_eq};
-ghost use Rattle.rw_host.specs.Files.{Rose, SameElsewhere};
+ghost use Rattle.journal_text.specs.Changes.{changes_of};
 ghost use Rattle.scheduler.specs.Runs.{same_bytes};
-ghost use Rattle.rewrite_cli.specs.Changes.{changed_to, changes, entries_of, entry_of, put_at, with_entries, with_entry, IsPart};
-ghost use Rattle.rewrite_cli.specs.Ends.{IsWriteStop};
+ghost use Rattle.rewrite_cli.specs.Changes.{batch_of, batch_with, changed_to, changes, file_of, is_kept_out};
+ghost use Rattle.rewrite_cli.specs.Changes.{is_removal, kept_for, written_at};
+ghost use Rattle.rewrite_cli.specs.Ends.{IsPlaceIn};
+ghost use Rattle.rewrite_cli.specs.Histories.{history_path};
 
-use crate::stop::Stop;
+use crate::histories::{HISTORY, history_path};
 use kept_files::KeptFile;
+use run_journal::{Batch, Entry};
 use rw_base::{Mem, Shared, Text};
-use rw_host::{Failed, PathText, Store};
 use std::alloc::Global;
 use std::cmp::Ordering;
 
@@ -22,13 +24,6 @@ pub enum Change {
     Created(Shared<KeptFile>),
     Changed(Shared<KeptFile>),
     Removed(Shared<KeptFile>),
-}
-
-/// Bytes that are put at a path, or none where the file there goes.
-#[derive(Drop)]
-pub struct Entry {
-    pub path: PathText,
-    pub bytes: Option<Text>,
 }
 
 fn is_same(a: &[u8], b: &[u8]) -> bool
@@ -126,99 +121,111 @@ pub fn changes_between(
     Ok(out)
 }
 
-// Bytes to be put at the path of a file.
-fn push_put(alloc: Global, out: &mut Vec<Entry>, file: &KeptFile) -> Mem<()>
-    ensures { OnOk result (out.new.items ≡ out.old.items ++ put_at file.now.path file.now.bytes) }
+// ---- what is written
+
+#[tactic(auto, unfolding(journal_text::specs::Changes::gate, journal_text::specs::Changes::journal, crate::specs::Histories::history_path))]
+fn is_kept_out(path: &str) -> bool
+    ensures { result ≡ is_kept_out path.now }
 {
-    if let Some(bytes) = &file.bytes {
-        let path = file.path.copy(alloc)?;
-        let bytes = Some(Text::from_slice(alloc, bytes.as_slice())?);
+    let path = path.as_bytes();
+    is_same(path, b".rewrite/gate")
+        || is_same(path, b".rewrite/journal")
+        || is_same(path, HISTORY.as_bytes())
+}
+
+impl Change {
+    fn file(&self) -> &KeptFile
+        ensures { result.now ≡ file_of self.now }
+    {
+        match self {
+            Change::Created(file) | Change::Changed(file) | Change::Removed(file) => file.get(),
+        }
+    }
+
+    fn is_removal(&self) -> bool
+        ensures { result ≡ is_removal self.now }
+    {
+        matches!(self, Change::Removed(_))
+    }
+}
+
+// Puts what is written for a file behind what is written for others.
+#[tactic(auto, using(crate::proofs::Batches::pushed))]
+fn push_written(alloc: Global, out: &mut Vec<Entry>, file: &KeptFile, is_removal: bool) -> Mem<()>
+    requires { is_kept_out file.now.path ≡ false }
+    ensures { OnOk result (
+        changes_of out.new.items ≡ changes_of out.old.items ++ written_at file.now is_removal) }
+{
+    let path = file.path.copy(alloc)?;
+    if is_removal {
+        out.push(Entry { path, bytes: None })?;
+    } else if let Some(bytes) = &file.bytes {
+        let bytes = Some(Vec::from_slice(alloc, bytes.as_slice())?);
         out.push(Entry { path, bytes })?;
     }
     Ok(())
 }
 
-fn push_entry(alloc: Global, out: &mut Vec<Entry>, change: &Change) -> Mem<()>
-    ensures { OnOk result (out.new.items ≡ out.old.items ++ entry_of change.now) }
+#[tactic(auto, using(crate::proofs::Batches::pushed))]
+fn push_change(alloc: Global, out: &mut Vec<Entry>, change: &Change) -> Mem<()>
+    ensures { OnOk result (changes_of out.new.items ≡ changes_of out.old.items ++ kept_for change.now) }
 {
-    match change {
-        Change::Created(file) => push_put(alloc, out, file.get())?,
-        Change::Changed(file) => push_put(alloc, out, file.get())?,
-        Change::Removed(file) => {
-            let path = file.get().path.copy(alloc)?;
-            out.push(Entry { path, bytes: None })?;
-        }
+    let file = change.file();
+    if is_kept_out(file.path.as_str()) {
+        return Ok(());
     }
-    Ok(())
+    push_written(alloc, out, file, change.is_removal())
 }
 
-// What is written for these changes.
-#[tactic(auto, using(crate::proofs::Merging::entries))]
-fn entries_of(alloc: Global, changes: &[Change]) -> Mem<Vec<Entry>>
-    ensures { IfOk result (λ entries. entries.items ≡ entries_of changes.now) }
+/// What is written for these changes, but the history.
+#[tactic(auto, using(crate::proofs::Batches::batches))]
+pub fn batch_of(alloc: Global, changes: &[Change]) -> Mem<Batch>
+    ensures { IfOk result (λ batch. changes_of batch.entries.items ≡ batch_of changes.now) }
 {
-    let mut out = Vec::new(alloc);
+    let mut entries = Vec::with_capacity(alloc, changes.len().saturating_add(1))?;
     for change in changes {
-        push_entry(alloc, &mut out, change)?;
+        push_change(alloc, &mut entries, change)?;
     }
-    Ok(out)
+    Ok(Batch { entries })
 }
 
-fn write_entry<S: Store>(store: &mut S, entry: Entry) -> Result<(), Failed>
-    requires { 1 ≤ S.spare store.old }
-    ensures files { IsTrue S.tells_files → OnOk result (S.files store.new ≡ with_entry entry (S.files store.old)) }
-    ensures elsewhere { IsTrue S.tells_files → SameElsewhere entry.path (S.files store.old) (S.files store.new) }
-    ensures spare { S.spare store.old ≤ S.spare store.new + 1 }
-    ensures cause { OnErr result (Rose (S.write_faults store.old) (S.write_faults store.new)) }
-    ensures count { S.write_faults store.old ≤ S.write_faults store.new }
-    ensures other_count { S.read_faults store.new ≡ S.read_faults store.old }
+fn is_before(entry: &Entry, path: &str) -> bool
+    ensures before { result ≡ true → slice_cmp nat_cmp entry.now.path path.now ≡ Less }
+    ensures behind { result ≡ false → slice_cmp nat_cmp entry.now.path path.now ≢ Less }
 {
-    let Entry { path, bytes } = entry;
-    match bytes {
-        Some(bytes) => store.write(path, bytes.into_vec())?,
-        None => store.remove(path.as_str())?,
-    }
-    Ok(())
+    matches!(entry.path.as_str().cmp(path), Ordering::Less)
 }
 
-// Writes the entries in order, and stops at the first that fails.
-#[tactic(auto, using(crate::proofs::Written::written))]
-fn write_entries<S: Store>(store: &mut S, entries: Vec<Entry>) -> Result<(), Failed>
-    requires { vec_len entries ≤ S.spare store.old }
-    ensures files { IsTrue S.tells_files →
-        OnOk result (S.files store.new ≡ with_entries entries.items (S.files store.old)) }
-    ensures part { IsTrue S.tells_files → IsPart entries.items (S.files store.old) (S.files store.new) }
-    ensures cause { OnErr result (Rose (S.write_faults store.old) (S.write_faults store.new)) }
-    ensures count { S.write_faults store.old ≤ S.write_faults store.new }
-    ensures other_count { S.read_faults store.new ≡ S.read_faults store.old }
+// How many of the entries have a smaller path.
+#[tactic(auto, using(crate::proofs::Batches::placed))]
+fn place_of(entries: &[Entry], path: &str) -> usize
+    ensures place { IsPlaceIn (changes_of entries.now) path.now result }
+    ensures in_range { result ≤ length entries.now }
 {
-    for entry in entries {
-        write_entry(store, entry)?;
+    let mut at = 0;
+    while at < entries.len() {
+        if !is_before(&entries[at], path) {
+            return at;
+        }
+        at += 1;
     }
-    Ok(())
+    at
 }
 
-/// Writes what has changed, and lets it outlast a crash. Where nothing has changed, nothing is written.
-#[tactic(auto, using(crate::proofs::Written::ended))]
-pub fn write_changes<S: Store>(alloc: Global, store: &mut S, changes: &[Change]) -> Result<(), Stop>
-    ensures files { IsTrue S.tells_files →
-        OnOk result (S.files store.new ≡ with_entries (entries_of changes.now) (S.files store.old)) }
-    ensures part { IsTrue S.tells_files → result ≡ Err Stop.WriteFault →
-        IsPart (entries_of changes.now) (S.files store.old) (S.files store.new) }
-    ensures read_fault { result ≡ Err Stop.ReadFault → Rose (S.read_faults store.old) (S.read_faults store.new) }
-    ensures write_fault { result ≡ Err Stop.WriteFault → Rose (S.write_faults store.old) (S.write_faults store.new) }
-    ensures unchanged { result ≡ Err Stop.ReadFault ⊎ result ≡ Err Stop.NoMemory →
-        S.files store.new ≡ S.files store.old }
-    ensures stop { IfErr result IsWriteStop }
+/// Puts the bytes of the history among what is written.
+#[tactic(auto, using(crate::proofs::Batches::with_history))]
+pub fn put_history(alloc: Global, batch: &mut Batch, bytes: Vec<u8>) -> Mem<()>
+    ensures { OnOk result (changes_of batch.new.entries.items
+        ≡ batch_with (history_path, Some bytes.items) (changes_of batch.old.entries.items)) }
 {
-    let entries = entries_of(alloc, changes)?;
-    let Ok(count) = u32::try_from(entries.len()) else {
-        return Err(Stop::NoMemory);
-    };
-    store.reserve(count)?;
-    write_entries(store, entries)?;
-    if count > 0 {
-        store.sync()?;
-    }
+    let path = history_path(alloc)?;
+    let at = place_of(&batch.entries, HISTORY);
+    batch.entries.insert(
+        at,
+        Entry {
+            path,
+            bytes: Some(bytes),
+        },
+    )?;
     Ok(())
 }

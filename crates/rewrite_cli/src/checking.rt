@@ -1,6 +1,6 @@
 // What `check` tells of a repository.
 ghost use Rattle.std.specs.Prelude.{◌≡◌, ◌≤◌, ◌<◌, ◌+◌, ◌++◌, ◌||◌, IsTrue, IfOk, IfErr, OnOk, Err, Some};
-ghost use Rattle.std.specs.Prelude.{is_some, decimal};
+ghost use Rattle.std.specs.Prelude.{[], is_some};
 ghost use Rattle.std.specs.FinMap as map;
 ghost use Rattle.rw_host.specs.Files.{Rose};
 ghost use Rattle.kept_files.specs.Readings.{AreReadings, Reads};
@@ -9,17 +9,21 @@ ghost use Rattle.rewrite_cli.specs.Checking.{any_refused, count_line, line_of, l
 ghost use Rattle.rewrite_cli.specs.declared.limits.TheConstants.{MOST_FILES, MOST_PATHS};
 ghost use Rattle.rewrite_cli.specs.Ends.{IsReadStop};
 ghost use Rattle.rewrite_cli.specs.Meanings.{AreMeanings, Meanings};
-ghost use Rattle.rewrite_cli.specs.Answers.{answer};
+ghost use Rattle.rewrite_cli.specs.Answers.{check_answer};
+ghost use Rattle.rewrite_cli.specs.Journals.{laid};
+ghost use Rattle.rewrite_cli.specs.Moments.{Idle};
+ghost use Rattle.journal_text.specs.Changes.{Rises, changes_of};
 ghost use Rattle.rewrite_cli.specs.Statuses.{IsAnswered};
-ghost use Rattle.rewrite_cli.specs.Words.{check};
 
 use crate::limits::{Limit, MOST_IN_ALL};
 use crate::sources::{MOST_READ, count_read, is_read, list_paths};
 use crate::stop::{Done, Stop};
 use crate::text::{put_number, put_refusal};
 use kept_files::Readers;
+use run_journal::Entry;
 use rw_base::{Mem, Reading, Refused};
 use rw_host::{PathText, Steps, Store};
+use standing_files::read_standing;
 use std::alloc::Global;
 use std::marker::Brand;
 use std::sync::ledger::{Blank, Ledger};
@@ -82,28 +86,31 @@ fn note_refusal(findings: &mut Findings, path: &str, refusal: Option<Refused>) -
 }
 
 // Reads the file at a path, where it is one that is read, and notes whether it is refused.
-#[tactic(auto, using(crate::proofs::FoundInFile::found_there, crate::proofs::SourceSteps::read_stops))]
+#[tactic(auto, using(crate::proofs::FoundInFile::found_there, crate::proofs::SourceSteps::read_stops, crate::proofs::Idling::idling))]
 fn check_file<S: Store, L: Ledger>(
     alloc: Global,
     store: &mut S,
+    entries: &[Entry],
     readers: &Readers,
     findings: &mut Findings,
     path: &str,
     steps: &mut Steps<L>,
 ) -> Result<(), Stop>
-    requires { findings.old.bytes ≤ MOST_IN_ALL }
+    requires rises { Rises [] (changes_of entries.now) }
+    requires in_limit { findings.old.bytes ≤ MOST_IN_ALL }
     ensures text { IsTrue S.tells_files → (read : Reads) → AreReadings read → OnOk result (
-        let refusal = refusal_at read (S.files store.old) path.now in
+        let refusal = refusal_at read (laid entries.now (S.files store.old)) path.now in
         findings.new.text.items ≡ findings.old.text.items ++ line_of path.now refusal) }
     ensures refused { IsTrue S.tells_files → (read : Reads) → AreReadings read → OnOk result (
-        let refusal = refusal_at read (S.files store.old) path.now in
+        let refusal = refusal_at read (laid entries.now (S.files store.old)) path.now in
         findings.new.any_refused ≡ (findings.old.any_refused || is_some refusal)) }
     ensures bytes { IsTrue S.tells_files → OnOk result (
-        findings.new.bytes ≡ findings.old.bytes + bytes_at (S.files store.old) path.now) }
+        findings.new.bytes ≡ findings.old.bytes + bytes_at (laid entries.now (S.files store.old)) path.now) }
     ensures in_limit { OnOk result (findings.new.bytes ≤ MOST_IN_ALL) }
     ensures past_limit { IsTrue S.tells_files → (limit : Limit) → result ≡ Err (Stop.Limit limit) →
-        (limit ≡ Limit.Bytes) × (MOST_IN_ALL < findings.old.bytes + bytes_at (S.files store.old) path.now) }
+        (limit ≡ Limit.Bytes) × (MOST_IN_ALL < findings.old.bytes + bytes_at (laid entries.now (S.files store.old)) path.now) }
     ensures files { S.files store.new ≡ S.files store.old }
+    ensures idle { Idle S.tells_images S.is_unsynced S.moment S.left_since S.image store.old store.new }
     ensures cause { result ≡ Err Stop.ReadFault → Rose (S.read_faults store.old) (S.read_faults store.new) }
     ensures stop { IfErr result IsReadStop }
     ensures count { S.read_faults store.old ≤ S.read_faults store.new }
@@ -111,7 +118,7 @@ fn check_file<S: Store, L: Ledger>(
     if !is_read(path) {
         return Ok(());
     }
-    let Some(bytes) = store.read(alloc, path, MOST_READ)? else {
+    let Some(bytes) = read_standing(alloc, store, entries, path, MOST_READ)? else {
         return Ok(());
     };
     let all = findings.bytes + bytes.len() as u64;
@@ -125,26 +132,29 @@ fn check_file<S: Store, L: Ledger>(
 }
 
 // Reads the files at these paths and notes which are refused.
-#[tactic(auto, using(crate::proofs::SourceSteps::read_stops))]
+#[tactic(auto, using(crate::proofs::SourceSteps::read_stops, crate::proofs::Idling::idling))]
 fn check_files<S: Store, L: Ledger>(
     alloc: Global,
     store: &mut S,
+    entries: &[Entry],
     findings: &mut Findings,
     paths: Vec<PathText>,
     blank: Blank,
 ) -> Result<(), Stop>
+    requires rises { Rises [] (changes_of entries.now) }
     requires none_yet { findings.old.bytes ≡ 0 }
     requires name { blank.name ≡ L.name }
     requires parts { blank.parts ≡ L.parts }
     requires some_part { 0 < L.parts }
     ensures text { IsTrue S.tells_files → (read : Reads) → AreReadings read → OnOk result (
-        findings.new.text.items ≡ findings.old.text.items ++ lines read (S.files store.old) paths.items) }
+        findings.new.text.items ≡ findings.old.text.items ++ lines read (laid entries.now (S.files store.old)) paths.items) }
     ensures refused { IsTrue S.tells_files → (read : Reads) → AreReadings read → OnOk result (
-        findings.new.any_refused ≡ (findings.old.any_refused || any_refused read (S.files store.old) paths.items)) }
-    ensures in_limit { IsTrue S.tells_files → OnOk result (bytes_read (S.files store.old) paths.items ≤ MOST_IN_ALL) }
+        findings.new.any_refused ≡ (findings.old.any_refused || any_refused read (laid entries.now (S.files store.old)) paths.items)) }
+    ensures in_limit { IsTrue S.tells_files → OnOk result (bytes_read (laid entries.now (S.files store.old)) paths.items ≤ MOST_IN_ALL) }
     ensures past_limit { IsTrue S.tells_files → (limit : Limit) → result ≡ Err (Stop.Limit limit) →
-        (limit ≡ Limit.Bytes) × (MOST_IN_ALL < bytes_read (S.files store.old) paths.items) }
+        (limit ≡ Limit.Bytes) × (MOST_IN_ALL < bytes_read (laid entries.now (S.files store.old)) paths.items) }
     ensures files { S.files store.new ≡ S.files store.old }
+    ensures idle { Idle S.tells_images S.is_unsynced S.moment S.left_since S.image store.old store.new }
     ensures cause { result ≡ Err Stop.ReadFault → Rose (S.read_faults store.old) (S.read_faults store.new) }
     ensures stop { IfErr result IsReadStop }
     ensures count { S.read_faults store.old ≤ S.read_faults store.new }
@@ -152,20 +162,36 @@ fn check_files<S: Store, L: Ledger>(
     let readers = Readers::new(alloc)?;
     let mut steps = Steps::<L>::new(blank);
     for path in paths {
-        check_file(alloc, store, &readers, findings, path.as_str(), &mut steps)?;
+        check_file(
+            alloc,
+            store,
+            entries,
+            &readers,
+            findings,
+            path.as_str(),
+            &mut steps,
+        )?;
     }
     Ok(())
 }
 
 // Reads the files of a store that has these paths, few enough, and tells which of them are refused.
-#[tactic(auto, using(crate::proofs::Answering::answered, crate::proofs::SourceSteps::all_found, crate::proofs::SourceSteps::read_stops))]
-fn check_listed<S: Store>(alloc: Global, store: &mut S, paths: Vec<PathText>) -> Result<Done, Stop>
-    requires listed { IsTrue S.tells_files → paths.items ≡ map.keys (S.files store.old) }
-    requires few_paths { IsTrue S.tells_files → map.len (S.files store.old) ≤ MOST_PATHS }
-    requires few_files { IsTrue S.tells_files → count_read (map.keys (S.files store.old)) ≤ MOST_FILES }
+#[tactic(auto, using(crate::proofs::Answering::answered, crate::proofs::SourceSteps::all_found, crate::proofs::SourceSteps::read_stops, crate::proofs::Idling::idling))]
+fn check_listed<S: Store>(
+    alloc: Global,
+    store: &mut S,
+    entries: &[Entry],
+    paths: Vec<PathText>,
+) -> Result<Done, Stop>
+    requires rises { Rises [] (changes_of entries.now) }
+    requires listed { IsTrue S.tells_files → paths.items ≡ map.keys (laid entries.now (S.files store.old)) }
+    requires few_listed { IsTrue S.tells_files → map.len (S.files store.old) ≤ MOST_PATHS }
+    requires few_paths { IsTrue S.tells_files → map.len (laid entries.now (S.files store.old)) ≤ MOST_PATHS }
+    requires few_files { IsTrue S.tells_files → count_read (map.keys (laid entries.now (S.files store.old))) ≤ MOST_FILES }
     ensures answer { IsTrue S.tells_files → (meanings : Meanings) → AreMeanings meanings →
-        IsAnswered (answer meanings (S.files store.old) check) result (S.files store.new) }
+        IsAnswered (check_answer meanings (S.files store.old) (laid entries.now (S.files store.old))) result (S.files store.new) }
     ensures files { S.files store.new ≡ S.files store.old }
+    ensures idle { Idle S.tells_images S.is_unsynced S.moment S.left_since S.image store.old store.new }
     ensures cause { result ≡ Err Stop.ReadFault → Rose (S.read_faults store.old) (S.read_faults store.new) }
     ensures stop { IfErr result IsReadStop }
 {
@@ -175,7 +201,7 @@ fn check_listed<S: Store>(alloc: Global, store: &mut S, paths: Vec<PathText>) ->
         any_refused: false,
         bytes: 0,
     };
-    match check_files::<S, Brand>(alloc, store, &mut findings, paths, Blank::new(1)) {
+    match check_files::<S, Brand>(alloc, store, entries, &mut findings, paths, Blank::new(1)) {
         Ok(()) => Ok(Done {
             text: findings.text,
             tells_of_files: findings.any_refused,
@@ -185,16 +211,22 @@ fn check_listed<S: Store>(alloc: Global, store: &mut S, paths: Vec<PathText>) ->
 }
 
 /// Reads each file that has a reader, and tells how many there are and which of them are refused.
-#[tactic(auto, using(crate::proofs::Answering::answered))]
-pub fn check_repository<S: Store>(alloc: Global, store: &mut S) -> Result<Done, Stop>
+#[tactic(auto, using(crate::proofs::Answering::answered, crate::proofs::Idling::idling))]
+pub fn check_repository<S: Store>(
+    alloc: Global,
+    store: &mut S,
+    entries: &[Entry],
+) -> Result<Done, Stop>
+    requires { Rises [] (changes_of entries.now) }
     ensures answer { IsTrue S.tells_files → (meanings : Meanings) → AreMeanings meanings →
-        IsAnswered (answer meanings (S.files store.old) check) result (S.files store.new) }
+        IsAnswered (check_answer meanings (S.files store.old) (laid entries.now (S.files store.old))) result (S.files store.new) }
     ensures files { S.files store.new ≡ S.files store.old }
+    ensures idle { Idle S.tells_images S.is_unsynced S.moment S.left_since S.image store.old store.new }
     ensures cause { result ≡ Err Stop.ReadFault → Rose (S.read_faults store.old) (S.read_faults store.new) }
     ensures stop { IfErr result IsReadStop }
 {
-    match list_paths(alloc, store) {
-        Ok(paths) => check_listed(alloc, store, paths),
+    match list_paths(alloc, store, entries) {
+        Ok(paths) => check_listed(alloc, store, entries, paths),
         Err(stop) => Err(stop),
     }
 }

@@ -11,6 +11,9 @@ pub const MOST_FILES: usize = 10_000;
 /// How many bytes all files that are read may have.
 pub const MOST_IN_ALL: u64 = 67_108_864;
 
+/// How many bytes the journal of a run may have.
+pub const MOST_JOURNAL: u64 = 1_073_741_824;
+
 /// A quantity with a limit.
 #[derive(Clone, Copy, Debug, PartialEq, Eq)]
 pub enum Limit {
@@ -19,6 +22,8 @@ pub enum Limit {
     Bytes,
     /// Bytes of all files after a step.
     StepBytes,
+    /// Bytes of the journal that would be written.
+    JournalBytes,
 }
 
 impl Limit {
@@ -32,6 +37,7 @@ impl Limit {
             Limit::Files => b"limit: files more than 10000\n",
             Limit::Bytes => b"limit: bytes more than 67108864\n",
             Limit::StepBytes => b"limit: step bytes more than 134217728\n",
+            Limit::JournalBytes => b"limit: journal bytes more than 1073741824\n",
         }
     }
 }

@@ -23,6 +23,9 @@
 
 mod changes;
 mod checking;
+mod commits;
+mod histories;
+mod journals;
 mod limits;
 mod planning;
 mod report;
@@ -33,7 +36,6 @@ mod stop;
 #[cfg(test)]
 mod tests;
 mod text;
-mod words;
 
 use crate::rewrite::rewrite;
 use crate::stop::NO_MEMORY;

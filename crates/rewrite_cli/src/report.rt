@@ -1,7 +1,7 @@
 // What `run` and `dry` tell.
 ghost use Rattle.std.specs.Prelude.{◌≡◌, ◌++◌, ◌||◌, OnOk, IfOk, if◌then◌else◌};
 ghost use Rattle.scheduler.specs.Runs.{refusal_of};
-ghost use Rattle.rewrite_cli.specs.Asking.{asked_told};
+ghost use Rattle.command_words.specs.Asking.{asked_told};
 ghost use Rattle.rewrite_cli.specs.Answers.{tells};
 ghost use Rattle.rewrite_cli.specs.Changes.{changes as all_changes};
 ghost use Rattle.rewrite_cli.specs.Ends.{ran_told};
@@ -14,7 +14,7 @@ use crate::changes::Change;
 use crate::running::Ran;
 use crate::stop::Done;
 use crate::text::{name_of, put_number, put_refusal};
-use crate::words::Asked;
+use command_words::Asked;
 use kept_files::KeptFile;
 use rw_base::{Mem, Place, Reading, Shared};
 use scheduler::{DropCause, Event};
@@ -55,7 +55,7 @@ fn either(a: bool, b: bool) -> bool
 
 // How many of these changes are of a kind.
 #[tactic(auto, using(crate::proofs::ReportSteps::counted))]
-fn count_of(changes: &[Change], kind: ChangeKind) -> usize
+pub fn count_of(changes: &[Change], kind: ChangeKind) -> usize
     ensures { result ≡ count_of kind changes.now }
 {
     let mut count = 0;

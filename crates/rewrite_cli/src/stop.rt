@@ -1,11 +1,15 @@
 // How a command ends.
 ghost use Rattle.std.specs.Prelude.{◌≡◌, Ok, Err};
+ghost use Rattle.std.specs.Prelude.{IfOk};
+ghost use Rattle.rewrite_cli.specs.Answers.{damaged_line};
+ghost use Rattle.rewrite_cli.specs.Ends.{TellsDamage};
 ghost use Rattle.rewrite_cli.specs.Statuses.{status_of, text_of};
 
 use crate::limits::Limit;
-use rw_base::{NoMemory, Text};
+use crate::text::put_number;
+use rw_base::{Mem, NoMemory, Text};
 use rw_host::{Failed, StoreFault};
-use std::alloc::{AllocError, AllocFailed};
+use std::alloc::{AllocError, AllocFailed, Global};
 
 /// Done, and nothing is told of a file.
 pub const DONE: u8 = 0;
@@ -34,6 +38,9 @@ pub const OUTPUT_FAULT: u8 = 7;
 /// A limit was passed.
 pub const LIMIT: u8 = 8;
 
+/// The journal or the history has no reading.
+pub const DAMAGED: u8 = 9;
+
 /// What is told of words that aren't those of a command. All commands stand there, also those to come.
 pub const USAGE_LINE: &[u8] =
     b"usage: rewrite run|dry|types --recipe NAME [--workers N] [--cycles N] | check [--workers N] | \
@@ -55,6 +62,8 @@ pub enum Stop {
     WriteFault,
     NoMemory,
     Limit(Limit),
+    /// The journal or the history has no reading, of which this line tells.
+    Damaged(Text),
 }
 
 impl Done {
@@ -75,6 +84,7 @@ impl Stop {
             Stop::WriteFault => WRITE_FAULT,
             Stop::NoMemory => NO_MEMORY,
             Stop::Limit(_) => LIMIT,
+            Stop::Damaged(_) => DAMAGED,
         }
     }
 
@@ -88,6 +98,7 @@ impl Stop {
             Stop::WriteFault => b"write fault\n",
             Stop::NoMemory => b"",
             Stop::Limit(limit) => limit.line(),
+            Stop::Damaged(line) => line.as_slice(),
         }
     }
 }
@@ -148,5 +159,28 @@ impl<T: Drop> From<AllocFailed<T>> for Stop {
 
     fn from(_: AllocFailed<T>) -> Self {
         Stop::NoMemory
+    }
+}
+
+#[tactic(auto, using(crate::proofs::HistorySteps::damages))]
+fn damaged_line(alloc: Global, path: &str, at: u32) -> Mem<Text>
+    ensures { IfOk result (λ line. line ≡ damaged_line path.now at) }
+{
+    let mut line = Vec::from_slice(alloc, b"damaged: ")?;
+    line.extend_from_slice(path.as_bytes())?;
+    line.extend_from_slice(b" at ")?;
+    put_number(&mut line, at as u64)?;
+    line.extend_from_slice(b"\n")?;
+    Ok(Text::from_vec(line))
+}
+
+/// How a file that has no reading from this place on ends a command.
+#[tactic(auto, using(crate::proofs::HistorySteps::damages))]
+pub fn damaged(alloc: Global, path: &str, at: u32) -> Stop
+    ensures { TellsDamage path.now at result }
+{
+    match damaged_line(alloc, path, at) {
+        Ok(line) => Stop::Damaged(line),
+        Err(_) => Stop::NoMemory,
     }
 }

@@ -92,15 +92,25 @@ fn run_failing_at(alloc: Global, call: u32) -> Result<(u8, usize), Fail> {
 #[test]
 fn each_call_that_fails_is_told(rt: HostRuntime) -> Result<(), Fail> {
     let table = [
-        ("list", 1, 4, 0),
-        ("the first read", 2, 4, 0),
-        ("the last read of a source file", 6, 4, 0),
-        ("the read of the recipe file", 7, 4, 0),
-        ("reserve", 8, 4, 0),
-        ("the first write", 9, 5, 0),
-        ("the second write", 10, 5, 1),
-        ("the last write", 11, 5, 2),
-        ("sync", 12, 5, 3),
+        ("the read of the gate", 1, 4, 0),
+        ("the sync of the recovery", 2, 5, 0),
+        ("list", 3, 4, 0),
+        ("the first read", 4, 4, 0),
+        ("the last read of a source file", 8, 4, 0),
+        ("the read of the history", 9, 4, 0),
+        ("the read of the recipe file", 10, 4, 0),
+        ("reserve", 11, 4, 0),
+        ("the write of the journal", 12, 5, 0),
+        ("the sync of the journal", 13, 5, 0),
+        ("the write of the gate", 14, 5, 0),
+        ("the sync of the gate", 15, 5, 0),
+        ("the write of the history", 16, 5, 0),
+        ("the first write", 17, 5, 0),
+        ("the second write", 18, 5, 1),
+        ("the last write", 19, 5, 2),
+        ("the sync of the files", 20, 5, 3),
+        ("the removal of the gate", 21, 5, 3),
+        ("the sync of the removal", 22, 5, 3),
         ("no call", 99, 1, 3),
     ];
     for (name, call, status, renamed) in table {
@@ -129,10 +139,11 @@ fn answers(
 #[test]
 fn check_tells_what_fails(rt: HostRuntime) -> Result<(), Fail> {
     let all: &[u8] = b"files 5\nrefused b/D.java 1:1 Unexpected\n";
-    let table: [(&str, u32, u32, u8, &[u8]); 6] = [
-        ("list", 1, 100, 4, b"read fault\n"),
-        ("the last read", 5, 100, 4, b"read fault\n"),
-        ("list, without room for the line", 1, 5, 4, b""),
+    let table: [(&str, u32, u32, u8, &[u8]); 7] = [
+        ("the read of the gate", 1, 100, 4, b"read fault\n"),
+        ("list", 2, 100, 4, b"read fault\n"),
+        ("the last read", 6, 100, 4, b"read fault\n"),
+        ("list, without room for the line", 2, 5, 4, b""),
         ("no call", 99, 100, 1, all),
         ("no call, with just room", 99, 40, 1, all),
         ("the sink", 99, 39, 7, b""),
@@ -158,7 +169,9 @@ fn words_are_answered(rt: HostRuntime) -> Result<(), Fail> {
     let report: &[u8] = b"recipe shop.R\ncycles 1\nfiles 5\nchanged 3\ncreated 0\nremoved 0\n\
 changed a.properties\nchanged b/c.properties\nchanged d.properties\nrefused b/D.java 1:1 Unexpected\n";
     let usage: &[u8] = crate::stop::USAGE_LINE;
-    let table: [(&[&str], u8, &[u8]); 9] = [
+    let table: [(&[&str], u8, &[u8]); 11] = [
+        (&["recover"], 0, b"recovered 0\n"),
+        (&["history"], 0, b""),
         (&["run", "--recipe", "shop.R"], 1, report),
         (
             &["dry", "--workers=2", "--cycles", "10", "--recipe=shop.R"],
@@ -187,5 +200,131 @@ changed a.properties\nchanged b/c.properties\nchanged d.properties\nrefused b/D.
             "{words:?}"
         );
     }
+    Ok(())
+}
+
+// ---- runs that are stopped
+
+const CHANGES: &[u8] = b"type: specs.openrewrite.org/v1beta/recipe
+name: shop.R
+recipeList:
+  - org.openrewrite.properties.ChangePropertyKey:
+      oldPropertyKey: old
+      newPropertyKey: new
+  - org.openrewrite.text.CreateTextFile:
+      relativeFileName: made.properties
+      fileContents: made
+  - org.openrewrite.DeleteSourceFiles:
+      filePattern: gone.properties
+";
+
+fn file(alloc: Global, name: &str, bytes: &[u8]) -> Result<(PathText, Vec<u8>), Fail> {
+    let Some(path) = PathText::new(alloc, name)? else {
+        return Err(Fail::new("no path"));
+    };
+    Ok((path, Vec::from_slice(alloc, bytes)?))
+}
+
+// A store of which a run changes one file, makes one and removes one, and whose calls fail from this one on.
+fn store_stopped_at(alloc: Global, stop: u32) -> Result<MemoryStore, Fail> {
+    let mut files = Vec::new(alloc);
+    files.push(file(alloc, "a.properties", b"old=1")?)?;
+    files.push(file(alloc, "gone.properties", b"x=1")?)?;
+    files.push(file(alloc, "rewrite.yml", CHANGES)?)?;
+    Ok(MemoryStore::new(alloc, files, Vec::new(alloc), stop)?)
+}
+
+// What these words answer over a store: the status and the text.
+fn asked<S: Store>(alloc: Global, store: &mut S, texts: &[&str]) -> Result<(u8, Vec<u8>), Fail> {
+    let words = words_of(alloc, texts)?;
+    let mut out = MemorySink::with_room(alloc, 1000)?;
+    let status = rewrite(alloc, &words, store, &mut out, &OpenGate);
+    Ok((status, Vec::from_slice(alloc, out.bytes())?))
+}
+
+fn reads<S: Store>(
+    alloc: Global,
+    store: &mut S,
+    name: &str,
+    bytes: Option<&[u8]>,
+) -> Result<bool, Fail> {
+    match store.read(alloc, name, u32::MAX)? {
+        Some(found) => Ok(Some(found.as_slice()) == bytes),
+        None => Ok(bytes.is_none()),
+    }
+}
+
+// Whether all files are the old ones, and the history is empty.
+fn is_old<S: Store>(alloc: Global, store: &mut S) -> Result<bool, Fail> {
+    Ok(
+        reads(alloc, store, "a.properties", Some(b"old=1"))?
+            && reads(alloc, store, "gone.properties", Some(b"x=1"))?
+            && reads(alloc, store, "made.properties", None)?
+            && asked(alloc, store, &["history"])?.1.is_empty(),
+    )
+}
+
+// Whether all files are the new ones, and the history has the run.
+fn is_new<S: Store>(alloc: Global, store: &mut S) -> Result<bool, Fail> {
+    let (status, history) = asked(alloc, store, &["history"])?;
+    Ok(
+        reads(alloc, store, "a.properties", Some(b"new=1"))?
+            && reads(alloc, store, "gone.properties", None)?
+            && reads(alloc, store, "made.properties", Some(b"made"))?
+            && status == 0
+            && history.starts_with(b"1 shop.R cycles 1 changed 1 created 1 removed 1 "),
+    )
+}
+
+// Wherever the run is stopped and whatever the crash leaves of what wasn't synced, a recovery gives all of the old files
+// or all of the new ones.
+#[test]
+fn stopped_runs_leave_old_or_new(rt: HostRuntime) -> Result<(), Fail> {
+    let alloc = rt.alloc();
+    for stop in 1..30u32 {
+        let mut store = store_stopped_at(alloc, stop)?;
+        let (status, _) = asked(alloc, &mut store, &["run", "--recipe", "shop.R"])?;
+        for pick in 0..256u32 {
+            let mut left = store.crash(alloc, pick)?;
+            let (recovered, _) = asked(alloc, &mut left, &["recover"])?;
+            assert_eq!(rt; recovered, 0, "stop {stop}, pick {pick}");
+            let old = is_old(alloc, &mut left)?;
+            let new = is_new(alloc, &mut left)?;
+            assert!(rt; old != new, "stop {stop}, pick {pick}");
+            assert!(rt; new || status != 0, "stop {stop}, pick {pick}");
+        }
+    }
+    Ok(())
+}
+
+const NO_JOURNAL: &[u8] = b"damaged: .rewrite/journal at 0\n";
+
+const NO_HISTORY: &[u8] = b"damaged: .rewrite/history.csv at 0\n";
+
+// The journal and the history may have no reading.
+#[test]
+fn damage_is_told(rt: HostRuntime) -> Result<(), Fail> {
+    let alloc = rt.alloc();
+    let commands: [&[&str]; 5] = [
+        &["run", "--recipe", "shop.R"],
+        &["dry", "--recipe", "shop.R"],
+        &["check"],
+        &["recover"],
+        &["history"],
+    ];
+    for words in commands {
+        let mut store = store_stopped_at(alloc, 0)?;
+        put(alloc, &mut store, ".rewrite/gate", b"1")?;
+        put(alloc, &mut store, ".rewrite/journal", b"x")?;
+        let (status, text) = asked(alloc, &mut store, words)?;
+        assert_eq!(rt; status, 9, "{words:?}");
+        assert_eq!(rt; text.as_slice(), NO_JOURNAL, "{words:?}");
+    }
+    let mut store = store_stopped_at(alloc, 0)?;
+    put(alloc, &mut store, ".rewrite/gate", b"x")?;
+    put(alloc, &mut store, ".rewrite/history.csv", b"x")?;
+    let (status, text) = asked(alloc, &mut store, &["history"])?;
+    assert_eq!(rt; status, 9);
+    assert_eq!(rt; text.as_slice(), NO_HISTORY);
     Ok(())
 }

@@ -1,6 +1,6 @@
 use Rattle.std.specs.Prelude.{codes}
 use Rattle.std.proofs.Common.{◌++◌, ap, ◌∙◌}
-use Rattle.rewrite_cli.specs.Asking.{asked_told}
+use Rattle.command_words.specs.Asking.{asked_told}
 use Rattle.rewrite_cli.specs.Ends.{ran_told}
 use Rattle.rewrite_cli.specs.Report.{count_read_in, number_line, text_line}
 use Rattle.rewrite_cli.proofs.ReportSteps.{head_is}

@@ -1,5 +1,5 @@
 use Rattle.std.proofs.Common.{◌++◌, ap, sym}
-use Rattle.rewrite_cli.specs.Asking.{asked_told}
+use Rattle.command_words.specs.Asking.{asked_told}
 use Rattle.rewrite_cli.specs.Ends.{ran_told}
 use Rattle.rewrite_cli.specs.Running.{refusals}
 use Rattle.rewrite_cli.proofs.ReportSteps.{report_by}

@@ -1,9 +1,12 @@
-use Rattle.std.proofs.Common.{◌≡◌, ◌≤◌, ◌++◌, ◌∙◌, ap, subst, inl, map as map_list, string_bytes}
+use Rattle.std.proofs.Common.{◌≡◌, true, false, ◌≤◌, ◌++◌, ◌∙◌, ap, subst, inl, map as map_list, string_bytes}
 use Rattle.rw_host.specs.Files.{Rose}
 use Rattle.rw_host.specs.Sink.{PutsPrefix}
-use Rattle.rewrite_cli.specs.Answers.{IsPut, answer}
-use Rattle.rewrite_cli.specs.Asking.{command_told}
-use Rattle.rewrite_cli.proofs.Answering.{not_seven, answer_status, answer_text, answer_left, done_status, cut_text}
+use Rattle.rewrite_cli.specs.Answers.{IsPut, answer, is_writing}
+use Rattle.command_words.specs.Asking.{command_told}
+use Rattle.rw_host.specs.Crash.{Leaves, Only}
+use Rattle.rewrite_cli.specs.Moments.{IsOldOrNew}
+use Rattle.rewrite_cli.specs.Statuses.{IsAsBefore}
+use Rattle.rewrite_cli.proofs.Answering.{done_ok, halted, on_ok, not_seven, answer_status, answer_text, answer_left, done_status, cut_text}
 use Rattle.rewrite_cli.proofs.Performing.{of_command}
 use Rattle.rewrite_cli.proofs.rewrite.rewrite.Goals as goal
 
@@ -36,3 +39,27 @@ pub returns-in-Some-clause-cut_text : goal.returns-in-Some-clause-cut_text
 returns-in-Some-clause-cut_text g c = λ told puts meanings are command e n.
     of_command (map_list string_bytes c.args.words.now) (command_told c.in-Some.command) c.in-Some.ensures (λ k. PutsPrefix (g.K.Sink.bytes_put c.args.out.now) (answer meanings (g.S.Store.files c.args.store.now) k).text (g.K.Sink.bytes_put c.tell.new.out))
     (subst (λ t. PutsPrefix (g.K.Sink.bytes_put c.args.out.now) t (g.K.Sink.bytes_put c.tell.new.out)) (cut_text _ _ c.perform.result c.tell.result (c.perform.ensures.answer told meanings are) c.tell.ensures.status c.tell.ensures.cut n) (c.tell.ensures.front puts n)) command e
+
+pub returns-in-Some-clause-unchanged : goal.returns-in-Some-clause-unchanged
+returns-in-Some-clause-unchanged g c = λ told meanings are h.
+    halted (IsAsBefore (meanings.journal (g.S.Store.files c.args.store.now)) (g.S.Store.files c.args.store.now) (g.S.Store.files c.perform.new.store)) c.perform.result c.tell.result c.tell.ensures.status h
+    (c.perform.ensures.unchanged told meanings are)
+
+pub returns-in-Some-clause-any_moment : goal.returns-in-Some-clause-any_moment
+returns-in-Some-clause-any_moment g c = λ told meanings are command e each.
+    of_command (map_list string_bytes c.args.words.now) (command_told c.in-Some.command) c.in-Some.ensures
+    (λ k. Leaves g.S.Store.moment g.S.Store.left_since g.S.Store.image c.args.store.now c.perform.new.store
+    (IsOldOrNew (g.S.Store.image c.args.store.now) (answer meanings (g.S.Store.files c.args.store.now) k).left) (IsOldOrNew (g.S.Store.image c.args.store.now) (answer meanings (g.S.Store.files c.args.store.now) k).left))
+    (c.perform.ensures.any_moment told meanings are each) command e
+
+pub returns-in-Some-clause-one_image : goal.returns-in-Some-clause-one_image
+returns-in-Some-clause-one_image g c = λ told command e w n.
+    of_command (map_list string_bytes c.args.words.now) (command_told c.in-Some.command) c.in-Some.ensures (λ k. is_writing k ≡ true → Only (g.S.Store.files c.perform.new.store) (g.S.Store.image c.perform.new.store))
+    (λ v. on_ok (Only (g.S.Store.files c.perform.new.store) (g.S.Store.image c.perform.new.store)) c.perform.result
+    (done_ok c.perform.result c.tell.result c.tell.ensures.status c.tell.ensures.cut n) (c.perform.ensures.one_image told v)) command e w
+
+pub returns-in-Some-clause-synced : goal.returns-in-Some-clause-synced
+returns-in-Some-clause-synced g c = λ command e w n.
+    of_command (map_list string_bytes c.args.words.now) (command_told c.in-Some.command) c.in-Some.ensures (λ k. is_writing k ≡ true → g.S.Store.is_unsynced c.perform.new.store ≡ false)
+    (λ v. on_ok (g.S.Store.is_unsynced c.perform.new.store ≡ false) c.perform.result
+    (done_ok c.perform.result c.tell.result c.tell.ensures.status c.tell.ensures.cut n) (c.perform.ensures.synced v)) command e w

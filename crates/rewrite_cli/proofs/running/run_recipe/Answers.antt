@@ -1,22 +1,24 @@
-use Rattle.std.proofs.Common.{Err, ap, sym, ◌∙◌}
-use Rattle.rewrite_cli.specs.Asking.{asked_told}
-use Rattle.rewrite_cli.specs.Opening.{plan_in}
+use Rattle.std.proofs.Common.{Err, ap, ◌∙◌}
+use Rattle.command_words.specs.Asking.{asked_told}
+use Rattle.rewrite_cli.specs.Journals.{laid}
 use Rattle.rewrite_cli.proofs.Performing.{run_end, fault_of_run, opening_is, fault_not_read}
 use Rattle.rewrite_cli.proofs.running.run_recipe.Goals as goal
 
 pub returns-in-Ok-clause-end : goal.returns-in-Ok-clause-end
 returns-in-Ok-clause-end g c = λ told meanings are.
-    run_end meanings (g.S.Store.files c.args.store.now) (asked_told c.args.asked) c.in_ok-plan.plan c.in_ok-kept.kept (c.in_ok-files.ensures.in_limits told)
-    (ap (λ fs. plan_in meanings fs c.args.asked.recipe.now) (sym c.source_files.ensures.store_files) ∙ c.in_ok-plan.ensures.plan told meanings are)
-    (c.in_ok-kept.ensures meanings.read are.read ∙ opening_is meanings (g.S.Store.files c.args.store.now) c.in_ok-files.files.items (c.in_ok-files.ensures.files told))
+    let files = laid c.args.entries.now (g.S.Store.files c.args.store.now) in
+    run_end meanings files (asked_told c.args.asked) c.in_ok-plan.plan c.in_ok-kept.kept
+    (c.in_ok-plan.ensures.plan told meanings are)
+    (c.in_ok-kept.ensures meanings.read are.read ∙ opening_is meanings files c.args.sources.items (c.requires.sources told))
     _ (c.in-Ok.ensures.done meanings.read are.read) (c.in-Ok.ensures.cycles meanings.read are.read) (c.in-Ok.ensures.still meanings.read are.read)
     (c.in_ok-first.ensures ∙ c.files.ensures.files)
 
 pub returns-clause-end : goal.returns-clause-end
 returns-clause-end g c = λ told meanings are.
-    fault_of_run meanings (g.S.Store.files c.args.store.now) (asked_told c.args.asked) c.in_ok-plan.plan c.in_ok-kept.kept (c.in_ok-files.ensures.in_limits told)
-    (ap (λ fs. plan_in meanings fs c.args.asked.recipe.now) (sym c.source_files.ensures.store_files) ∙ c.in_ok-plan.ensures.plan told meanings are)
-    (c.in_ok-kept.ensures meanings.read are.read ∙ opening_is meanings (g.S.Store.files c.args.store.now) c.in_ok-files.files.items (c.in_ok-files.ensures.files told))
+    let files = laid c.args.entries.now (g.S.Store.files c.args.store.now) in
+    fault_of_run meanings files (asked_told c.args.asked) c.in_ok-plan.plan c.in_ok-kept.kept
+    (c.in_ok-plan.ensures.plan told meanings are)
+    (c.in_ok-kept.ensures meanings.read are.read ∙ opening_is meanings files c.args.sources.items (c.requires.sources told))
     c.in-Err.fault c.stop_of.result (λ bytes e. (c.run_plan.new.kept, c.run_plan.ensures.too_much meanings.read are.read bytes (c.in-Err.is ∙ ap Err e))) c.stop_of.ensures
 
 pub returns-clause-cause : goal.returns-clause-cause

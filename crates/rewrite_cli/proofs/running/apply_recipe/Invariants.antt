@@ -1,4 +1,0 @@
-use Rattle.rewrite_cli.proofs.running.apply_recipe.Given as goal
-
-abbrev pub ghosts-run_recipe : goal.ghosts-run_recipe
-ghosts-run_recipe g a = record { name = a.blank.name; parts = a.blank.parts }

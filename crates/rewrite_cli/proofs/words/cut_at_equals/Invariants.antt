@@ -1,7 +1,0 @@
-use Rattle.std.proofs.Common.{◌≡◌, take, drop}
-use Rattle.rewrite_cli.specs.Words.{cut_at_equals}
-use Rattle.rewrite_cli.proofs.WordSteps.{behind}
-use Rattle.rewrite_cli.proofs.words.cut_at_equals.Given as goal
-
-abbrev pub invariant-loop-at : goal.invariant-loop-at
-invariant-loop-at l = behind (take l.at l.word) (cut_at_equals (drop l.at l.word)) ≡ cut_at_equals l.word
