@@ -218,20 +218,18 @@ recipeList:
       filePattern: gone.properties
 ";
 
-fn file(alloc: Global, name: &str, bytes: &[u8]) -> Result<(PathText, Vec<u8>), Fail> {
-    let Some(path) = PathText::new(alloc, name)? else {
-        return Err(Fail::new("no path"));
-    };
-    Ok((path, Vec::from_slice(alloc, bytes)?))
-}
+// How many calls of the store it takes to put the files of such a run there and to sync them.
+const READY: u32 = 7;
 
 // A store of which a run changes one file, makes one and removes one, and whose calls fail from this one on.
-fn store_stopped_at(alloc: Global, stop: u32) -> Result<MemoryStore, Fail> {
-    let mut files = Vec::new(alloc);
-    files.push(file(alloc, "a.properties", b"old=1")?)?;
-    files.push(file(alloc, "gone.properties", b"x=1")?)?;
-    files.push(file(alloc, "rewrite.yml", CHANGES)?)?;
-    Ok(MemoryStore::new(alloc, files, Vec::new(alloc), stop)?)
+fn store_stopped_at(alloc: Global, call: u32) -> Result<MemoryStore, Fail> {
+    let stop = call.saturating_add(READY);
+    let mut store = MemoryStore::new(alloc, Vec::new(alloc), Vec::new(alloc), stop)?;
+    put(alloc, &mut store, "a.properties", b"old=1")?;
+    put(alloc, &mut store, "gone.properties", b"x=1")?;
+    put(alloc, &mut store, "rewrite.yml", CHANGES)?;
+    store.sync()?;
+    Ok(store)
 }
 
 // What these words answer over a store: the status and the text.
@@ -281,17 +279,17 @@ fn is_new<S: Store>(alloc: Global, store: &mut S) -> Result<bool, Fail> {
 #[test]
 fn stopped_runs_leave_old_or_new(rt: HostRuntime) -> Result<(), Fail> {
     let alloc = rt.alloc();
-    for stop in 1..30u32 {
-        let mut store = store_stopped_at(alloc, stop)?;
+    for call in 1..30u32 {
+        let mut store = store_stopped_at(alloc, call)?;
         let (status, _) = asked(alloc, &mut store, &["run", "--recipe", "shop.R"])?;
         for pick in 0..256u32 {
             let mut left = store.crash(alloc, pick)?;
             let (recovered, _) = asked(alloc, &mut left, &["recover"])?;
-            assert_eq!(rt; recovered, 0, "stop {stop}, pick {pick}");
+            assert_eq!(rt; recovered, 0, "call {call}, pick {pick}");
             let old = is_old(alloc, &mut left)?;
             let new = is_new(alloc, &mut left)?;
-            assert!(rt; old != new, "stop {stop}, pick {pick}");
-            assert!(rt; new || status != 0, "stop {stop}, pick {pick}");
+            assert!(rt; old != new, "call {call}, pick {pick}");
+            assert!(rt; new || status != 0, "call {call}, pick {pick}");
         }
     }
     Ok(())
@@ -300,6 +298,9 @@ fn stopped_runs_leave_old_or_new(rt: HostRuntime) -> Result<(), Fail> {
 const NO_JOURNAL: &[u8] = b"damaged: .rewrite/journal at 0\n";
 
 const NO_HISTORY: &[u8] = b"damaged: .rewrite/history.csv at 0\n";
+
+// The number of a call that no command comes to.
+const NEVER: u32 = 1000;
 
 // The journal and the history may have no reading.
 #[test]
@@ -313,14 +314,14 @@ fn damage_is_told(rt: HostRuntime) -> Result<(), Fail> {
         &["history"],
     ];
     for words in commands {
-        let mut store = store_stopped_at(alloc, 0)?;
+        let mut store = store_stopped_at(alloc, NEVER)?;
         put(alloc, &mut store, ".rewrite/gate", b"1")?;
         put(alloc, &mut store, ".rewrite/journal", b"x")?;
         let (status, text) = asked(alloc, &mut store, words)?;
         assert_eq!(rt; status, 9, "{words:?}");
         assert_eq!(rt; text.as_slice(), NO_JOURNAL, "{words:?}");
     }
-    let mut store = store_stopped_at(alloc, 0)?;
+    let mut store = store_stopped_at(alloc, NEVER)?;
     put(alloc, &mut store, ".rewrite/gate", b"x")?;
     put(alloc, &mut store, ".rewrite/history.csv", b"x")?;
     let (status, text) = asked(alloc, &mut store, &["history"])?;
