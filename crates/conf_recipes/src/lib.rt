@@ -22,8 +22,8 @@
 //! let edit = edits_of_change_key(alloc, &kept, file, &options)?;      // `key_changed`; also `value_changed`,
 //! ```                                                                 // `yaml_property_key_changed`, `key_deleted`
 //!
-//! Their definitions are in `YamlRecipes`, over those of `YamlLeaves` (keys and values), `YamlJoinedKeys` (keys joined by
-//! dots) and `YamlDeletions` (what stays of a mapping).
+//! Their definitions are in `YamlRecipes`, over those of `YamlLeaves` (keys and values), `YamlJoinedKeys` (keys joined
+//! by dots) and `YamlDeletions` (what stays of a mapping).
 //!
 //! What must be believed is `PropertiesEdits` in specs/, behind properties_tree's `Keys` and rw_base's `NewText`.
 #![tactic(auto)]

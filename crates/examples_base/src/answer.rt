@@ -3,8 +3,8 @@ use std::alloc::Global;
 use std::fmt::Debug;
 use std::io;
 
-/// The answer of a case, as far as it is written. It is refused where a call gave up, memory was refused or the case isn't
-/// of its heading's form.
+/// The answer of a case, as far as it is written. It is refused where a call gave up, memory was refused or the case
+/// isn't of its heading's form.
 #[derive(Drop)]
 pub struct Answer {
     text: String,

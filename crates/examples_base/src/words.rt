@@ -229,8 +229,8 @@ impl Words {
         }
     }
 
-    /// The text of the words from a place on: the quoted words one behind another, where a number repeats the word before
-    /// it so many times.
+    /// The text of the words from a place on: the quoted words one behind another, where a number repeats the word
+    /// before it so many times.
     pub fn text(&self, alloc: Global, first: usize, out: &mut Answer) -> Vec<u8> {
         let mut text = Vec::new(alloc);
         for at in first..self.words.len() {

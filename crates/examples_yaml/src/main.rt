@@ -2,8 +2,8 @@
 //! scalars say, texts spelled as scalars, key paths, and what they find. The program reads cases and writes each with
 //! its answer, and the file `stdout` holds what it must write (see `examples_base`).
 //!
-//! `trees` writes what a file is read into, `texts` what its scalars say, and `paths` key paths and what they find. What
-//! is proved of a call stands in `yaml_tree` and `yaml_texts`.
+//! `trees` writes what a file is read into, `texts` what its scalars say, and `paths` key paths and what they find.
+//! What is proved of a call stands in `yaml_tree` and `yaml_texts`.
 #![tactic(auto)]
 
 mod paths;

@@ -22,7 +22,8 @@ without path files = filter (λ f. not (bytes_eq f.path path)) files
 
 -- files with a change: a file is put anew, or goes
 unfoldable pub changed : Reads → Change → State → State
-changed read (change.Put path bytes) files = put_file (file_of read (record { path = path; bytes = Some bytes.items })) files
+changed read (change.Put path bytes) files =
+    put_file (file_of read (record { path = path; bytes = Some bytes.items })) files
 changed read (change.Remove path) files = without path files
 
 -- files with these changes, one after another

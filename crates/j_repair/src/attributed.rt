@@ -119,7 +119,8 @@ fn all_read<L: Ledger>(
     steps: &mut Steps<L>,
 ) -> Mem<Vec<Shared<KeptFile>>>
     requires { IsInOrder (paths_of files.items) }
-    ensures files { (read : Reads) → AreReadings read → IfOk result (λ out. out.items ≡ map (file_of read) files.items) }
+    ensures files { (read : Reads) → AreReadings read →
+        IfOk result (λ out. out.items ≡ map (file_of read) files.items) }
     ensures kept { IfOk result (λ out. AreKept out.items) }
 {
     let mut out = Vec::with_capacity(alloc, files.len())?;

@@ -1,5 +1,6 @@
 -- Where a path stops being one that an entry may have.
-use Rattle.std.specs.Prelude.{◌≡◌, ◌⊎◌, ℕ, ◌<◌, ◌≤◌, Bool, false, ◌==◌, not, nat_lt, if◌then◌else◌, List, [], ◌∷◌, ◌++◌, length, take, slice_index, IsUtf8}
+use Rattle.std.specs.Prelude.{◌≡◌, ◌⊎◌, ℕ, ◌<◌, ◌≤◌, Bool, false, ◌==◌, not, nat_lt, if◌then◌else◌, List, [], ◌∷◌}
+use Rattle.std.specs.Prelude.{◌++◌, length, take, slice_index, IsUtf8}
 use Rattle.std.specs.List.{All, list_all, slice_split}
 use Rattle.rw_host.specs.Path.{is_part}
 use Rattle.journal_text.specs.Changes.{IsPathText}

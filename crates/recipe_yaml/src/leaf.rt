@@ -243,7 +243,8 @@ fn properties_change_property_key(
     options: &[WrittenOption],
 ) -> Mem<PropertiesChangePropertyKey>
     ensures { (paths : KeyPathsOf) → IfOk result (λ made.
-        recipes.PropertiesChangePropertyKey made ≡ with_options paths leaf_names.PropertiesChangePropertyKey options.now) }
+        recipes.PropertiesChangePropertyKey made
+        ≡ with_options paths leaf_names.PropertiesChangePropertyKey options.now) }
 {
     Ok(PropertiesChangePropertyKey {
         old_property_key: text_given(alloc, options, OptionName::OldPropertyKey)?,

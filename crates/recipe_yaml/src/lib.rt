@@ -12,10 +12,10 @@
 //! scanning recipe through any number of others is found (the law `any_number_leads`). Want of memory alone is free.
 //!
 //! The definitions in specs/, in this order. Of recipe files: `Names` (names that are taken), `Nodes` (what a node of a
-//! YAML tree is), `WrittenEntries` (entries of the lists), `Books` (documents and files). Of plans: `KeyPathTexts` (what
-//! a text reads as as a key path), `Faults`, `LeafNames` and `Leaves` (leaf recipes and their options), `Leading` (which
-//! recipes lead to scanning ones), `Walks` (the walk through the lists), `Plans`. `Checked` and `Parts` serve private
-//! functions alone.
+//! YAML tree is), `WrittenEntries` (entries of the lists), `Books` (documents and files). Of plans: `KeyPathTexts`
+//! (what a text reads as as a key path), `Faults`, `LeafNames` and `Leaves` (leaf recipes and their options), `Leading`
+//! (which recipes lead to scanning ones), `Walks` (the walk through the lists), `Plans`. `Checked` and `Parts` serve
+//! private functions alone.
 #![tactic(auto)]
 
 mod book;

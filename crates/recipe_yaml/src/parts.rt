@@ -2,9 +2,10 @@
 ghost use Rattle.std.specs.Prelude.{◌≡◌, ◌<◌, ◌-◌, length, IfOk, IfSome};
 ghost use Rattle.rw_base.specs.Arena.{end_of, first_of, past_of};
 ghost use Rattle.rw_grammar.specs.Results.{class_in};
-ghost use Rattle.recipe_yaml.specs.Nodes.{nodes_of, leaf_part, node_part, kind_at, beginning, has_anchor, behind_anchor, is_flow_mapping};
-ghost use Rattle.recipe_yaml.specs.Nodes.{scalar_leaf, entry_key, entry_value, stray_leaf, last_leaf, item_value};
-ghost use Rattle.recipe_yaml.specs.Nodes.{item_colon, sequence_leaf, document_value, scalar_value, node_value, value_at};
+ghost use Rattle.recipe_yaml.specs.Nodes.{nodes_of, leaf_part, node_part, kind_at, beginning, has_anchor};
+ghost use Rattle.recipe_yaml.specs.Nodes.{behind_anchor, is_flow_mapping, scalar_leaf, entry_key, entry_value};
+ghost use Rattle.recipe_yaml.specs.Nodes.{stray_leaf, last_leaf, item_value, item_colon, sequence_leaf};
+ghost use Rattle.recipe_yaml.specs.Nodes.{document_value, scalar_value, node_value, value_at};
 ghost use Rattle.recipe_yaml.specs.Parts.{IsNode, AreNodes, IsSlot, IsValue};
 
 use crate::kinds::{CONTENT, DOC_PART, ENTRY, FCONTENT, FITEM, FLOW, FNODE, ITEM, MAP, NODE, SEQ};

@@ -37,8 +37,8 @@ pub struct Condition {
     pub leaves: Items<PlannedLeaf>,
 }
 
-/// What a run does: its leaf recipes in order, their preconditions, each behind those that it needs, and whether another
-/// cycle may come after one that changed something.
+/// What a run does: its leaf recipes in order, their preconditions, each behind those that it needs, and whether
+/// another cycle may come after one that changed something.
 #[derive(Debug, Drop)]
 pub struct Plan {
     pub leaves: Items<PlannedLeaf>,

@@ -7,8 +7,8 @@ ghost use Rattle.rw_base.specs.Arena.{end_of};
 ghost use Rattle.rw_base.specs.Places.{place_at};
 ghost use Rattle.kept_files.specs.Readings.{AreReadings, EndsWith, IsReading, Reads};
 ghost use Rattle.yaml_tree.specs.Scalars.{scalar_of};
-ghost use Rattle.recipe_yaml.specs.Books.{key_named, root_key, is_type, says_recipe, no_root, is_taken, name_at, flag_of};
-ghost use Rattle.recipe_yaml.specs.Books.{flag_at, with_type, with_name, with_conditions, with_list, with_again};
+ghost use Rattle.recipe_yaml.specs.Books.{key_named, root_key, is_type, says_recipe, no_root, is_taken, name_at};
+ghost use Rattle.recipe_yaml.specs.Books.{flag_of, flag_at, with_type, with_name, with_conditions, with_list, with_again};
 ghost use Rattle.recipe_yaml.specs.Books.{with_root_entry, with_node, finished, recipe_of, has_recipe_type, is_recipe};
 ghost use Rattle.recipe_yaml.specs.Books.{with_mapping, with_document, book_in, book_of, recipes_in};
 ghost use Rattle.recipe_yaml.specs.Checked.{Gives, Leaves, each};
@@ -108,7 +108,11 @@ fn is_taken(before: &[Written], name: &[u8]) -> bool
 }
 
 // The name of a recipe, which isn't taken.
-#[tactic(auto, using(crate::proofs::Binds::binds), unfolding(crate::specs::Books::name_at, crate::specs::Books::free_name))]
+#[tactic(
+    auto,
+    using(crate::proofs::Binds::binds),
+    unfolding(crate::specs::Books::name_at, crate::specs::Books::free_name)
+)]
 fn name_at(
     alloc: Global,
     tree: &Tree,

@@ -1,10 +1,12 @@
 // The source files of a repository.
-ghost use Rattle.std.specs.Prelude.{◌≡◌, ◌≤◌, ◌<◌, ◌+◌, ◌++◌, [], ◌∷◌, ℕ, List, None, Some, false, IsTrue, IfOk, IfErr, OnOk, Err};
+ghost use Rattle.std.specs.Prelude.{◌≡◌, ◌≤◌, ◌<◌, ◌+◌, ◌++◌, [], ◌∷◌, ℕ, List, None, Some, false, IsTrue, IfOk};
+ghost use Rattle.std.specs.Prelude.{IfErr, OnOk, Err};
 ghost use Rattle.std.specs.FinMap as map;
 ghost use Rattle.rw_host.specs.Files.{Files, IsInOrder, Rose};
 ghost use Rattle.journal_text.specs.Changes.{Rises, changes_of};
 ghost use Rattle.j_repair.specs.Changes.{paths_of};
-ghost use Rattle.rewrite_cli.specs.Sources.{bytes_at, bytes_read, count_read, is_read, source_at, sources_at, sources_of};
+ghost use Rattle.rewrite_cli.specs.Sources.{bytes_at, bytes_read, count_read, is_read, source_at, sources_at};
+ghost use Rattle.rewrite_cli.specs.Sources.{sources_of};
 ghost use Rattle.rewrite_cli.specs.Limits.{limit_of};
 ghost use Rattle.rewrite_cli.specs.Ends.{IsReadStop};
 ghost use Rattle.rewrite_cli.specs.Journals.{laid};

@@ -36,7 +36,8 @@ kept_kind rows n = ap (λ m. (get_or (row_values no_trees (λ n r f. (r.kind, tr
     kinds vs (r ∷ rows) (suc n) =
         let x : KindAndTrees = (r.kind, trees_by (λ m. get_or vs m no_trees) r.parts) in
         let same : length vs + suc n ≡ length (vs ++ x ∷ []) + n = omega (arith, length-append vs (x ∷ [])) in
-        ap (λ m. (get_or (row_values no_trees (λ n r f. (r.kind, trees_by f r.parts)) (vs ++ x ∷ []) rows) m no_trees).0)
+        ap (λ m.
+        (get_or (row_values no_trees (λ n r f. (r.kind, trees_by f r.parts)) (vs ++ x ∷ []) rows) m no_trees).0)
         same ∙ kinds (vs ++ x ∷ []) rows n
 
 pub forest_nil : (rows : List NodeRow) → forest_of rows [] ≡ none

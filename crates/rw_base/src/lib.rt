@@ -21,8 +21,8 @@
 //! To read the definitions, in specs/: `Arena` (leaves, nodes, and when they are a tree), `Trees` and `Laid` (trees as
 //! plain data, and as rows), `NewText` and `Gaps` (edits), `Claims` (the laws), `Places`, `Cut`, and words for crates
 //! above in `NaturalLines`, `Expressions`, `Fronts` and `Utf8`. `Heads` and `KeptNodes` say how nodes are kept, and
-//! `Chosen`, `Tasks` and `Editings` how edits are put into a text. The files named Laws, and `LaidTrees`, `Joins`, `Starts`,
-//! `SameEdits` and `RankedEdits`, hold lemmas alone.
+//! `Chosen`, `Tasks` and `Editings` how edits are put into a text. The files named Laws, and `LaidTrees`, `Joins`,
+//! `Starts`, `SameEdits` and `RankedEdits`, hold lemmas alone.
 #![tactic(auto)]
 
 mod chosen;

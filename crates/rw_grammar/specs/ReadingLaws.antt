@@ -74,19 +74,23 @@ module _ (rules : List Parts) (sound : IsSound rules) (start : ℕ) (leaves : Li
         let same = a_rule_stops_at_one_leaf rule (class_in leaves) (rule start) (all_of leaves) i j s t in
         e ∙ (ap (λ (k : ℕ). Err (refused_first bytes bad (begin_of bytes leaves k))) same ∙ sym f)
     outcomes_are_one bad a b (stops-at-leaf i s e) (ends-at-bad c q d f) = absurd (goes_nowhere i s d)
-    outcomes_are_one bad a b (stops-at-leaf i s e) (is-too-deep j q d f) = absurd (goes_nowhere i s (d.kind, d.kids, d.derived))
-    outcomes_are_one bad a b (stops-at-leaf i s e) (is-tree t q d f) = absurd (goes_nowhere i s (d.kind, d.kids, d.derived))
+    outcomes_are_one bad a b (stops-at-leaf i s e) (is-too-deep j q d f) =
+        absurd (goes_nowhere i s (d.kind, d.kids, d.derived))
+    outcomes_are_one bad a b (stops-at-leaf i s e) (is-tree t q d f) =
+        absurd (goes_nowhere i s (d.kind, d.kids, d.derived))
     outcomes_are_one bad a b (ends-at-bad c p d e) (stops-at-leaf j t f) = absurd (goes_nowhere j t d)
     outcomes_are_one bad a b (ends-at-bad c p d e) (ends-at-bad c' q d' f) =
         e ∙ (ap (λ (x : Bad). Err (refused_at bytes x.byte x.cause)) (bad_is c c' bad p q) ∙ sym f)
     outcomes_are_one bad a b (ends-at-bad c p d e) (is-too-deep j q d' f) = absurd (no_bad c bad p q)
     outcomes_are_one bad a b (ends-at-bad c p d e) (is-tree t q d' f) = absurd (no_bad c bad p q)
-    outcomes_are_one bad a b (is-too-deep i p d e) (stops-at-leaf j t f) = absurd (goes_nowhere j t (d.kind, d.kids, d.derived))
+    outcomes_are_one bad a b (is-too-deep i p d e) (stops-at-leaf j t f) =
+        absurd (goes_nowhere j t (d.kind, d.kids, d.derived))
     outcomes_are_one bad a b (is-too-deep i p d e) (ends-at-bad c q d' f) = absurd (no_bad c bad q p)
     outcomes_are_one bad a b (is-too-deep i p d e) (is-too-deep j q d' f) =
         e ∙ (ap (λ (k : ℕ). Err (refused_at bytes (begin_of bytes leaves k) TooDeep)) (one_deep i j d d') ∙ sym f)
     outcomes_are_one bad a b (is-too-deep i p d e) (is-tree t q d' f) = absurd (not_both i t d d')
-    outcomes_are_one bad a b (is-tree t p d e) (stops-at-leaf j s f) = absurd (goes_nowhere j s (d.kind, d.kids, d.derived))
+    outcomes_are_one bad a b (is-tree t p d e) (stops-at-leaf j s f) =
+        absurd (goes_nowhere j s (d.kind, d.kids, d.derived))
     outcomes_are_one bad a b (is-tree t p d e) (ends-at-bad c q d' f) = absurd (no_bad c bad q p)
     outcomes_are_one bad a b (is-tree t p d e) (is-too-deep j q d' f) = absurd (not_both j t d' d)
     outcomes_are_one bad a b (is-tree t p d e) (is-tree u q d' f) = e ∙ (ap Ok (one_derived t u d d') ∙ sym f)

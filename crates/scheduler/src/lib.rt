@@ -10,8 +10,8 @@
 //! and the maximum allows it. `run_plan` ensures that it comes to the last state and the events of that run (`done`,
 //! `cycles`, `still`), or stands at the state before the first that holds too much (`too_much`).
 //!
-//! The definitions in specs/: `Edits` (what each leaf recipe does), `Holds` (preconditions), `Fates` and `Steps` (an edit
-//! step), `Runs` (cycles, runs, and what is reached). `Came` says what a part of a run came to.
+//! The definitions in specs/: `Edits` (what each leaf recipe does), `Holds` (preconditions), `Fates` and `Steps` (an
+//! edit step), `Runs` (cycles, runs, and what is reached). `Came` says what a part of a run came to.
 #![tactic(auto)]
 
 mod cycling;
