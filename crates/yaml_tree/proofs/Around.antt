@@ -166,9 +166,6 @@ times_at (part.Node x ∷ ps) (suc k) d m lt e = omega (arith, times_at ps k d m
 -- ---- a tree
 
 module _ (t : Arena) (tree : IsTree t) where
-  rows : List NodeRow
-  rows = t.nodes
-
   parent : (n : ℕ) → n < length t.nodes → (n ≡ t.root → ⊥) → Parent t.nodes n
   parent n lt other =
       parent_in t.nodes n (subst (λ k. 0 < k) (sym (tree.once n lt ∙ ap (λ (b : Bool). if b then 0 else 1)
