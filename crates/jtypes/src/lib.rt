@@ -14,7 +14,8 @@
 //! answers give equal results and equal questions.
 //!
 //! Names and lists are shared: a copy of a name, of a method's parameters or of a header takes no memory, and one of
-//! a type takes some where the type is an array. `Names` keeps each name once for a file or a worker.
+//! a type takes some where the type is an array. `Names` keeps each name once for a file or a worker. `Symbol` is what
+//! an identifier stands for, and `UnitTypes` what is known of the names and expressions of a part of a file.
 //!
 //! Read `specs/World.antt` first (questions, answers and worlds), then `Primitives`, `Subtype` (the relation, and
 //! below it the rule that decides it) and `Fits`. `Arrays` says how a definition matches on an array, `Groups` and
@@ -37,7 +38,9 @@ mod promotion;
 mod shared_list;
 mod signatures;
 mod subtypes;
+mod symbol;
 mod types;
+mod unit_types;
 mod walk;
 
 pub use ask::Ask;
@@ -58,4 +61,6 @@ pub use promotion::promote;
 pub use shared_list::SharedList;
 pub use signatures::{ClassKind, FieldSig, Header, MethodSig};
 pub use subtypes::{is_subtype, is_subtype_asking};
+pub use symbol::Symbol;
 pub use types::{JPrim, JType, are_same_types};
+pub use unit_types::UnitTypes;

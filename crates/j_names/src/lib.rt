@@ -1,0 +1,7 @@
+//! What names in Java files mean.
+#![tactic(auto)]
+
+mod context;
+
+pub use context::{EnclosingClass, Frame, ImportRow, LocalField, UnitContext};
+pub use jtypes::{Ask, Symbol, UnitTypes};
