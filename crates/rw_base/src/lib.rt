@@ -35,7 +35,6 @@ mod memory;
 mod node_edits;
 mod nodes;
 mod place;
-mod reading;
 mod rearranging;
 mod shared;
 mod text;
@@ -46,7 +45,6 @@ pub use leaves::{Bad, Leaves, MOST_BYTES};
 pub use memory::{Mem, NoMemory};
 pub use nodes::Nodes;
 pub use place::{Cause, Place, ReadFault, Refused, place_after, place_of};
-pub use reading::Reading;
 pub use rearranging::{
     edits_are_known_by_their_spots, gaps_stay, ranked_edits_are_edits, rearranged,
 };
