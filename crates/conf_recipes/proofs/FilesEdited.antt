@@ -1,5 +1,5 @@
 -- What the recipes do to a file, by cases of what it reads as.
-use Rattle.std.proofs.Common.{◌≡◌, ℕ, List, [], ◌∷◌, length, Option, Some, None, refl, sym, ap, subst, ◌∙◌}
+use Rattle.std.proofs.Common.{◌≡◌, ℕ, List, [], ◌∷◌, length, true, false, Option, Some, None, refl, sym, ap, subst, ◌∙◌}
 use Rattle.rw_base.specs.Arena.{Arena}
 use Rattle.rw_base.specs.NewText.{AreEdits}
 use Rattle.rw_base.specs.declared.edit.Edit.{Edit}
@@ -8,11 +8,13 @@ use Rattle.properties_tree.specs.declared.option.PropertiesChangePropertyKey.{Pr
 use Rattle.properties_tree.specs.declared.option.DeleteProperty.{DeleteProperty}
 use Rattle.properties_tree.specs.declared.option.AddProperty.{AddProperty}
 use Rattle.properties_tree.specs.declared.option.ChangePropertyValue.{ChangePropertyValue}
+use Rattle.properties_tree.specs.Entries.{properties_of}
 use Rattle.kept_files.specs.FileEdits.{with_edits, FitsFile, FitTree}
 use Rattle.kept_files.specs.States.{properties_in, tree_in}
 use Rattle.kept_files.specs.declared.file.KeptFile.{KeptFile}
 use Rattle.conf_recipes.specs.PropertiesEdits.{edits_of}
-use Rattle.conf_recipes.specs.PropertiesRecipes.{edited_by, properties_key_changed, property_deleted, deletes_of, property_value_changed, values_of, property_added, adds_of}
+use Rattle.conf_recipes.specs.PropertiesRecipes.{edited_by, properties_key_changed, property_deleted, deletes_of, property_value_changed, values_of, property_added, adds_of, has_entry}
+use Rattle.conf_recipes.proofs.Lacking.{no_key_edits, no_deletes, no_value_edits, has_none}
 
 -- ---- no edit is none
 
@@ -50,7 +52,17 @@ pub no_key_changed : (o : PropertiesChangePropertyKey) (f : KeptFile) → proper
 unfolding properties_key_changed
 no_key_changed o f e = none_by (λ b. edits_of b o) (properties_in f) e
 
-pub ruleset keys_changed = (key_changed, no_key_changed, edits_fit)
+
+
+pub no_key_to_change : (o : PropertiesChangePropertyKey) (f : KeptFile) (t : Arena) (bytes : List ℕ)
+    → properties_in f ≡ Some (t, bytes) → has_entry o.old_property_key (properties_of bytes).entries ≡ false
+    → edit.Keep ≡ properties_key_changed o f
+unfolding properties_key_changed
+no_key_to_change o f t bytes e none =
+    some_by (λ b. edits_of b o) (properties_in f) t bytes [] e
+    (sym (no_key_edits o.old_property_key o.new_property_key 0 (properties_of bytes).entries none))
+
+pub ruleset keys_changed = (key_changed, no_key_changed, no_key_to_change, edits_fit)
 
 -- ---- DeleteProperty
 
@@ -62,7 +74,15 @@ pub not_deleted : (o : DeleteProperty) (f : KeptFile) → properties_in f ≡ No
 unfolding property_deleted
 not_deleted o f e = none_by (λ b. deletes_of b o) (properties_in f) e
 
-pub ruleset properties_deleted = (deleted, not_deleted, edits_fit)
+pub no_key_to_delete : (o : DeleteProperty) (f : KeptFile) (t : Arena) (bytes : List ℕ)
+    → properties_in f ≡ Some (t, bytes) → has_entry o.property_key (properties_of bytes).entries ≡ false
+    → edit.Keep ≡ property_deleted o f
+unfolding property_deleted
+no_key_to_delete o f t bytes e none =
+    some_by (λ b. deletes_of b o) (properties_in f) t bytes [] e
+    (sym (no_deletes o.property_key 0 (properties_of bytes).entries none))
+
+pub ruleset properties_deleted = (deleted, not_deleted, no_key_to_delete, edits_fit)
 
 -- ---- ChangePropertyValue
 
@@ -74,7 +94,15 @@ pub no_value_changed : (o : ChangePropertyValue) (f : KeptFile) → properties_i
 unfolding property_value_changed
 no_value_changed o f e = none_by (λ b. values_of b o) (properties_in f) e
 
-pub ruleset values_changed = (value_changed, no_value_changed, edits_fit)
+pub no_key_with_value : (o : ChangePropertyValue) (f : KeptFile) (t : Arena) (bytes : List ℕ)
+    → properties_in f ≡ Some (t, bytes) → has_entry o.property_key (properties_of bytes).entries ≡ false
+    → edit.Keep ≡ property_value_changed o f
+unfolding property_value_changed
+no_key_with_value o f t bytes e none =
+    some_by (λ b. values_of b o) (properties_in f) t bytes [] e
+    (sym (no_value_edits o 0 (properties_of bytes).entries none))
+
+pub ruleset values_changed = (value_changed, no_value_changed, no_key_with_value, edits_fit)
 
 -- ---- AddProperty
 
@@ -86,4 +114,10 @@ pub none_gets_in : (o : AddProperty) (f : KeptFile) → properties_in f ≡ None
 unfolding property_added
 none_gets_in o f e = none_by (λ b. adds_of b o) (properties_in f) e
 
-pub ruleset properties_added = (property_gets_in, none_gets_in, edits_fit)
+pub key_is_there : (o : AddProperty) (f : KeptFile) (t : Arena) (bytes : List ℕ)
+    → properties_in f ≡ Some (t, bytes) → has_entry o.property (properties_of bytes).entries ≡ true
+    → edit.Keep ≡ property_added o f
+unfolding property_added
+key_is_there o f t bytes e some = some_by (λ b. adds_of b o) (properties_in f) t bytes [] e (sym (has_none bytes o some))
+
+pub ruleset properties_added = (property_gets_in, none_gets_in, key_is_there, edits_fit)

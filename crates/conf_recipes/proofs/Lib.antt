@@ -1,6 +1,7 @@
 pub mod KeyEdits
 pub mod Written
 pub mod Copied
+pub mod Lacking
 pub mod FilesEdited
 pub mod LastEnd
 pub mod Deleted

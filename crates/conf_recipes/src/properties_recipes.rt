@@ -3,7 +3,8 @@ ghost use Rattle.std.specs.Prelude.{◌≡◌, ◌<◌, length, IfOk};
 ghost use Rattle.kept_files.specs.FileEdits.{FitsFile};
 ghost use Rattle.kept_files.specs.States.{file_at, IsKept};
 ghost use Rattle.conf_recipes.specs.PropertiesRecipes.{properties_key_changed, property_deleted};
-ghost use Rattle.conf_recipes.specs.PropertiesRecipes.{property_value_changed, property_added};
+ghost use Rattle.conf_recipes.specs.PropertiesRecipes.{has_entry, property_value_changed, property_added};
+ghost use Rattle.properties_tree.specs.Entries.{properties_of};
 
 use crate::adding::adds_in_properties;
 use crate::deleting::deletes_in_properties;
@@ -12,11 +13,20 @@ use crate::properties::edits_in_properties;
 use crate::values::values_in_properties;
 use kept_files::{KeptFile, KeptFiles, properties_in};
 use properties_tree::{
-    AddProperty, ChangePropertyValue, DeleteProperty, PropertiesChangePropertyKey,
+    AddProperty, ChangePropertyValue, DeleteProperty, PropertiesChangePropertyKey, next_with_key,
 };
 use rw_base::Mem;
 use rw_host::FileEdit;
 use std::alloc::Global;
+
+// Whether an entry of a properties file has a key. Its bytes tell, without a tree.
+#[tactic(auto, using(crate::proofs::Lacking::entries_told))]
+fn has_entry(alloc: Global, bytes: &[u8], key: &[u8]) -> Mem<bool>
+    ensures { IfOk result (λ yes. yes ≡ has_entry key.now (properties_of bytes.now).entries) }
+{
+    let found = next_with_key(alloc, bytes, 0, key)?;
+    Ok(found.is_some())
+}
 
 #[tactic(auto, using(crate::proofs::FilesEdited::keys_changed))]
 fn key_changed_in(
@@ -31,7 +41,11 @@ fn key_changed_in(
     let Some((tree, bytes)) = properties_in(file) else {
         return Ok(FileEdit::Keep);
     };
-    let edits = edits_in_properties(alloc, tree, bytes, options)?;
+    if !has_entry(alloc, bytes, options.old_property_key.as_slice())? {
+        return Ok(FileEdit::Keep);
+    }
+    let tree = tree.made(alloc)?;
+    let edits = edits_in_properties(alloc, &tree, bytes, options)?;
     Ok(with_edits(edits))
 }
 
@@ -60,7 +74,11 @@ fn deleted_in(alloc: Global, file: &KeptFile, options: &DeleteProperty) -> Mem<F
     let Some((tree, bytes)) = properties_in(file) else {
         return Ok(FileEdit::Keep);
     };
-    let edits = deletes_in_properties(alloc, tree, bytes, options)?;
+    if !has_entry(alloc, bytes, options.property_key.as_slice())? {
+        return Ok(FileEdit::Keep);
+    }
+    let tree = tree.made(alloc)?;
+    let edits = deletes_in_properties(alloc, &tree, bytes, options)?;
     Ok(with_edits(edits))
 }
 
@@ -89,7 +107,11 @@ fn value_changed_in(alloc: Global, file: &KeptFile, options: &ChangePropertyValu
     let Some((tree, bytes)) = properties_in(file) else {
         return Ok(FileEdit::Keep);
     };
-    let edits = values_in_properties(alloc, tree, bytes, options)?;
+    if !has_entry(alloc, bytes, options.property_key.as_slice())? {
+        return Ok(FileEdit::Keep);
+    }
+    let tree = tree.made(alloc)?;
+    let edits = values_in_properties(alloc, &tree, bytes, options)?;
     Ok(with_edits(edits))
 }
 
@@ -119,7 +141,11 @@ fn added_in(alloc: Global, file: &KeptFile, options: &AddProperty) -> Mem<FileEd
     let Some((tree, bytes)) = properties_in(file) else {
         return Ok(FileEdit::Keep);
     };
-    let edits = adds_in_properties(alloc, tree, bytes, options)?;
+    if has_entry(alloc, bytes, options.property.as_slice())? {
+        return Ok(FileEdit::Keep);
+    }
+    let tree = tree.made(alloc)?;
+    let edits = adds_in_properties(alloc, &tree, bytes, options)?;
     Ok(with_edits(edits))
 }
 

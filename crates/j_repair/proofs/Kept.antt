@@ -8,8 +8,8 @@ use Rattle.std.specs.Str.{bytes_eq}
 use Rattle.std.specs.Ordering.{nat_cmp}
 use Rattle.std.specs.Cmp.Lexicographic.{slice_cmp}
 use Rattle.std.specs.declared.cmp.Ordering.TheVariants.{Less}
-use Rattle.rw_base.specs.declared.reading.Reading.{Reading}
-use Rattle.rw_base.specs.declared.reading.Reading.TheVariants as reading
+use Rattle.kept_files.specs.declared.reading.Reading.{Reading}
+use Rattle.kept_files.specs.declared.reading.Reading.TheVariants as reading
 use Rattle.rw_host.specs.declared.file.SourceFile.{SourceFile}
 use Rattle.rw_host.specs.Files.{IsInOrder}
 use Rattle.kept_files.specs.Readings.{Reads, AreReadings, IsReading, EndsWith, AreBytesOrNone}

@@ -8,8 +8,8 @@ ghost use Rattle.j_repair.specs.Changes.{file_of, paths_of, repaired};
 use crate::change::Change;
 use crate::reading::file_of;
 use crate::repairing::files_with;
-use kept_files::{KeptFile, KeptFiles, Readers};
-use rw_base::{Mem, Reading, Shared};
+use kept_files::{KeptFile, KeptFiles, Readers, Reading};
+use rw_base::{Mem, Shared, Text};
 use rw_host::{SourceFile, Steps};
 use sqlite_items::Items;
 use std::alloc::Global;
@@ -55,7 +55,7 @@ impl Attributed {
         &self,
         alloc: Global,
         path: &str,
-        bytes: &[u8],
+        bytes: &Shared<Text>,
         steps: &mut Steps<L>,
     ) -> Mem<Reading>
         ensures reading { IfOk result (λ r. IsReading path.now (Some bytes.now) r) }

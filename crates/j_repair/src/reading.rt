@@ -4,8 +4,8 @@ ghost use Rattle.kept_files.specs.Readings.{AreReadings, Reads};
 ghost use Rattle.kept_files.specs.States.{IsKept};
 ghost use Rattle.j_repair.specs.Changes.{file_of};
 
-use kept_files::{KeptFile, Readers};
-use rw_base::{Mem, Reading, Text};
+use kept_files::{KeptFile, Readers, Reading};
+use rw_base::{Mem, Shared, Text};
 use rw_host::{PathText, SourceFile, Steps};
 use std::alloc::Global;
 use std::sync::ledger::Ledger;
@@ -24,7 +24,8 @@ fn file_with<L: Ledger>(
     ensures kept { IfOk result IsKept }
     ensures path { IfOk result (λ f. f.path ≡ path) }
 {
-    let reading = readers.read_file(alloc, path.as_str(), bytes.as_slice(), steps)?;
+    let bytes = Shared::new(alloc, bytes)?;
+    let reading = readers.read_file(alloc, path.as_str(), &bytes, steps)?;
     Ok(KeptFile {
         path,
         bytes: Some(bytes),

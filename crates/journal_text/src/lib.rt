@@ -7,7 +7,7 @@
 //! put 6 docs/a.txt                                    // a file of so many bytes, then those bytes and an LF
 //! hello!
 //! del docs/b.txt                                      // a file that is removed
-//! sha256 4a44dc15…                                    // the digest of all bytes before this line
+//! sha256 58318d1f8b620a5c…                            // the digest of all bytes before this line
 //!
 //! let batch = Batch { entries };                      // paths rise, none is `.rewrite/gate` or `.rewrite/journal`
 //! if journal_len(&batch) <= MOST_BYTES as u64 {

@@ -1,10 +1,10 @@
 // The text of a journal, made.
-ghost use Rattle.std.specs.Prelude.{◌≡◌, ◌++◌, IfOk, OnOk};
+ghost use Rattle.std.specs.Prelude.{◌≡◌, ◌++◌, codes, IfOk, OnOk};
 ghost use Rattle.hex.specs.Hex.{encode_lower};
 ghost use Rattle.sha2.specs.Sha256.{sha256};
 ghost use Rattle.journal_text.specs.Changes.{change_of, changes_of, IsPathText, ArePaths};
 ghost use Rattle.journal_text.specs.Numerals.{numeral};
-ghost use Rattle.journal_text.specs.Text.{entry_text, entries_text, head_text, body_text, digest_line, journal_text};
+ghost use Rattle.journal_text.specs.Text.{entry_text, entries_text, head_text, body_text, journal_text};
 
 use crate::batch::{Batch, Entry};
 use crate::length::journal_len;
@@ -61,14 +61,20 @@ fn push_entries(out: &mut Vec<u8>, entries: &[Entry]) -> Result<(), AllocError>
     Ok(())
 }
 
+// The digits of a digest, in lower case.
+fn digits_of(digest: &[u8; 32]) -> [u8; 64]
+    ensures { result ≡ encode_lower digest.now }
+{
+    let mut digits = [0; 64];
+    hex::encode_to_slice(digest, &mut digits).unwrap();
+    digits
+}
+
 /// The digits of the digest of a text, in lower case.
 pub fn digest_digits(text: &[u8]) -> [u8; 64]
     ensures { result ≡ encode_lower (sha256 text.now) }
 {
-    let digest = Sha256::digest(text);
-    let mut digits = [0; 64];
-    hex::encode_to_slice(&digest, &mut digits).unwrap();
-    digits
+    digits_of(&Sha256::digest(text))
 }
 
 fn push_head(out: &mut Vec<u8>, count: u64) -> Result<(), AllocError>
@@ -87,13 +93,12 @@ fn push_body(out: &mut Vec<u8>, entries: &[Entry]) -> Result<(), AllocError>
     push_entries(out, entries)
 }
 
-// The last line, of the text before it.
-fn push_digest(out: &mut Vec<u8>) -> Result<(), AllocError>
-    ensures { OnOk result (out.new.items ≡ out.old.items ++ digest_line out.old.items) }
+// The last line, with the digits of a digest.
+fn push_digest(out: &mut Vec<u8>, digits: &[u8; 64]) -> Result<(), AllocError>
+    ensures { OnOk result (out.new.items ≡ out.old.items ++ (codes "sha256 " ++ digits.now ++ codes "\n")) }
 {
-    let digits = digest_digits(out);
     out.extend_from_slice(b"sha256 ")?;
-    out.extend_from_slice(&digits)?;
+    out.extend_from_slice(digits)?;
     out.extend_from_slice(b"\n")
 }
 
@@ -104,15 +109,24 @@ pub fn journal_of(alloc: Global, batch: &Batch) -> Mem<Vec<u8>>
 {
     let mut text = Vec::with_capacity(alloc, journal_len(batch) as usize)?;
     push_body(&mut text, &batch.entries)?;
-    push_digest(&mut text)?;
+    let digits = digest_digits(&text);
+    push_digest(&mut text, &digits)?;
     Ok(text)
 }
 
-/// The SHA-256 of the whole journal of a batch, its last line included.
+/// The SHA-256 of the whole journal of a batch, its last line included. Each byte is taken once: the digest in the last
+/// line is that of what the hasher has taken until then.
 pub fn journal_digest(alloc: Global, batch: &Batch) -> Mem<[u8; 32]>
     ensures digest { IfOk result (λ digest. digest ≡ sha256 (journal_text (changes_of batch.now.entries.items))) }
     ensures paths { IfOk result (λ digest. ArePaths (changes_of batch.now.entries.items)) }
 {
-    let text = journal_of(alloc, batch)?;
-    Ok(Sha256::digest(&text[..]))
+    let mut body = Vec::with_capacity(alloc, journal_len(batch) as usize)?;
+    push_body(&mut body, &batch.entries)?;
+    let mut hasher = Sha256::new();
+    hasher.update(&body[..]);
+    let before_line = hasher.clone()?;
+    let mut line = Vec::with_capacity(alloc, 72)?;
+    push_digest(&mut line, &digits_of(&before_line.finalize()))?;
+    hasher.update(&line[..]);
+    Ok(hasher.finalize())
 }

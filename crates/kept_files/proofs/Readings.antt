@@ -7,8 +7,8 @@ use Rattle.rw_base.specs.declared.leaves.TheConstants.{MOST_BYTES}
 use Rattle.rw_base.specs.declared.place.Refused.{Refused}
 use Rattle.rw_base.specs.declared.place.ReadFault.{ReadFault}
 use Rattle.rw_base.specs.declared.place.ReadFault.TheVariants as fault
-use Rattle.rw_base.specs.declared.reading.Reading.{Reading}
-use Rattle.rw_base.specs.declared.reading.Reading.TheVariants as reading
+use Rattle.kept_files.specs.declared.reading.Reading.{Reading}
+use Rattle.kept_files.specs.declared.reading.Reading.TheVariants as reading
 use Rattle.properties_tree.specs.Layout.{tree_of}
 use Rattle.properties_tree.specs.Refusal.{too_large}
 use Rattle.java_lex.specs.Laws.{AreBytes}

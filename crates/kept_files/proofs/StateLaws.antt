@@ -13,8 +13,8 @@ use Rattle.std.specs.declared.cmp.Ordering.TheVariants.{Less, Equal, Greater}
 use Rattle.rw_base.specs.Arena.{Arena, end_of}
 use Rattle.rw_base.specs.declared.leaves.TheConstants.{MOST_BYTES}
 use Rattle.rw_base.specs.declared.place.Refused.{Refused}
-use Rattle.rw_base.specs.declared.reading.Reading.{Reading}
-use Rattle.rw_base.specs.declared.reading.Reading.TheVariants as reading
+use Rattle.kept_files.specs.declared.reading.Reading.{Reading}
+use Rattle.kept_files.specs.declared.reading.Reading.TheVariants as reading
 use Rattle.properties_tree.specs.Layout.{tree_of}
 use Rattle.properties_tree.specs.Refusal.{too_large}
 use Rattle.kept_files.specs.declared.kind.FileKind.{FileKind}

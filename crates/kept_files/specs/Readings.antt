@@ -3,8 +3,8 @@ use Rattle.std.specs.Prelude.{◌≡◌, ℕ, nat_lt, List, length, Option, Some
 use Rattle.rw_base.specs.Arena.{Arena, end_of}
 use Rattle.rw_base.specs.declared.leaves.TheConstants.{MOST_BYTES}
 use Rattle.rw_base.specs.declared.place.Refused.{Refused}
-use Rattle.rw_base.specs.declared.reading.Reading.{Reading}
-use Rattle.rw_base.specs.declared.reading.Reading.TheVariants as reading
+use Rattle.kept_files.specs.declared.reading.Reading.{Reading}
+use Rattle.kept_files.specs.declared.reading.Reading.TheVariants as reading
 use Rattle.properties_tree.specs.Layout.{tree_of}
 use Rattle.properties_tree.specs.Refusal.{too_large}
 use Rattle.java_lex.specs.Laws.{AreBytes}

@@ -1,11 +1,12 @@
 // A file with what was read from it.
-use rw_base::{Reading, Text};
+use crate::reading::Reading;
+use rw_base::{Shared, Text};
 use rw_host::PathText;
 
 /// A file: its path, its bytes where they are known, and what it reads as.
 #[derive(Debug, Drop)]
 pub struct KeptFile {
     pub path: PathText,
-    pub bytes: Option<Text>,
+    pub bytes: Option<Shared<Text>>,
     pub reading: Reading,
 }

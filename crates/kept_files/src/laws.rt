@@ -1,6 +1,6 @@
 // Laws of files: functions that do nothing, whose clauses hold of every file.
 ghost use Rattle.std.specs.Prelude.{◌≡◌, ℕ, List, Option};
-ghost use Rattle.rw_base.specs.declared.reading.Reading.{Reading};
+ghost use Rattle.kept_files.specs.declared.reading.Reading.{Reading};
 ghost use Rattle.kept_files.specs.Readings.{AreBytesOrNone, IsReading};
 
 use java_reader::readings_are_one;

@@ -3,7 +3,7 @@
 //! ```text
 //! let readers = Readers::new(alloc)?;                          // the tables are checked once
 //! if kind_of(path) != FileKind::Other {
-//!     let reading = readers.read_file(alloc, path, bytes, &mut steps)?;
+//!     let reading = readers.read_file(alloc, path, &bytes, &mut steps)?;
 //! }
 //! ```
 //!
@@ -20,6 +20,7 @@ mod kind;
 mod laws;
 mod option;
 mod readers;
+mod reading;
 mod scan_value;
 mod state;
 
@@ -28,5 +29,6 @@ pub use kind::{FileKind, is_source, kind_of};
 pub use laws::a_file_reads_as_one_thing;
 pub use option::{CreateTextFile, DeleteSourceFiles, FindSourceFiles};
 pub use readers::Readers;
+pub use reading::Reading;
 pub use scan_value::ScanValue;
 pub use state::{KeptFiles, has_path, held_bytes, properties_in, put_file, yaml_in};

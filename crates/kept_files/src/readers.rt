@@ -6,9 +6,10 @@ ghost use Rattle.kept_files.specs.Readings.{properties_reading};
 ghost use Rattle.java_lex.specs.Laws.{AreBytes};
 
 use crate::kind::{FileKind, kind_of};
+use crate::reading::Reading;
 use java_reader::JavaReader;
-use properties_tree::read_properties;
-use rw_base::{Mem, NoMemory, ReadFault, Reading};
+use properties_tree::PropertiesTree;
+use rw_base::{Mem, NoMemory, ReadFault, Shared, Text};
 use rw_host::Steps;
 use std::alloc::Global;
 use std::sync::ledger::Ledger;
@@ -22,11 +23,11 @@ pub struct Readers {
 }
 
 #[tactic(auto, using(crate::proofs::Readings::properties))]
-fn read_as_properties(alloc: Global, bytes: &[u8]) -> Mem<Reading>
+fn read_as_properties(bytes: &Shared<Text>) -> Mem<Reading>
     ensures reading { IfOk result (λ r. r ≡ properties_reading bytes.now) }
     ensures whole { IfOk result (λ r. EndsWith bytes.now r) }
 {
-    match read_properties(alloc, bytes) {
+    match PropertiesTree::read(bytes) {
         Ok(tree) => Ok(Reading::Properties(tree)),
         Err(ReadFault::Refused(refused)) => Ok(Reading::Refused(refused)),
         Err(ReadFault::NoMemory) => Err(NoMemory),
@@ -78,7 +79,7 @@ impl Readers {
         &self,
         alloc: Global,
         path: &str,
-        bytes: &[u8],
+        bytes: &Shared<Text>,
         steps: &mut Steps<L>,
     ) -> Mem<Reading>
         ensures reading { IfOk result (λ r. IsReading path.now (Some bytes.now) r) }
@@ -87,11 +88,12 @@ impl Readers {
         ensures steps { OnOk result (AreSteps (kind_of path.now) bytes.now steps.old steps.new) }
         ensures at_most { (most : ℕ) → AreSteps (kind_of path.now) bytes.now steps.old most → steps.new ≤ most }
     {
-        are_bytes(bytes);
+        let text = bytes.get().as_slice();
+        are_bytes(text);
         match kind_of(path) {
-            FileKind::Java => read_as_java(&self.java, bytes, steps),
-            FileKind::Yaml => read_as_yaml(alloc, &self.yaml, bytes),
-            FileKind::Properties => read_as_properties(alloc, bytes),
+            FileKind::Java => read_as_java(&self.java, text, steps),
+            FileKind::Yaml => read_as_yaml(alloc, &self.yaml, text),
+            FileKind::Properties => read_as_properties(bytes),
             FileKind::Other => Ok(Reading::Unread),
         }
     }

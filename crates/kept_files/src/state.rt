@@ -11,7 +11,9 @@ ghost use Rattle.kept_files.specs.States.{State, AreKept, IsKept, file_at, has_p
 ghost use Rattle.kept_files.specs.States.{properties_in, tree_in, yaml_in};
 
 use crate::file::KeptFile;
-use rw_base::{Mem, Reading, Shared, Tree};
+use crate::reading::Reading;
+use properties_tree::PropertiesTree;
+use rw_base::{Mem, Shared, Tree};
 use std::alloc::Global;
 use std::cmp::Ordering;
 
@@ -95,7 +97,7 @@ fn held_by(file: &KeptFile) -> u64
     ensures { result ≡ held_by file.now }
 {
     match &file.bytes {
-        Some(bytes) => bytes.as_slice().len() as u64,
+        Some(bytes) => bytes.get().as_slice().len() as u64,
         None => 0,
     }
 }
@@ -114,7 +116,7 @@ pub fn held_bytes(files: &[Shared<KeptFile>]) -> u64
 
 /// The tree and the bytes of an accepted properties file; `None` for other files.
 #[tactic(auto, using(crate::proofs::StateLaws::trees))]
-pub fn properties_in(file: &KeptFile) -> Option<(&Tree, &[u8])>
+pub fn properties_in(file: &KeptFile) -> Option<(&PropertiesTree, &[u8])>
     requires { IsKept file.now }
     ensures found { option_map (λ p. (p.0.now, p.1.now)) result ≡ properties_in file.now }
     ensures tree { IfSome result (λ p. p.0.now ≡ tree_of p.1.now) }
@@ -123,7 +125,7 @@ pub fn properties_in(file: &KeptFile) -> Option<(&Tree, &[u8])>
 {
     match &file.reading {
         Reading::Properties(tree) => match &file.bytes {
-            Some(bytes) => Some((tree, bytes.as_slice())),
+            Some(bytes) => Some((tree, bytes.get().as_slice())),
             None => None,
         },
         Reading::Java(_) => None,
@@ -144,7 +146,7 @@ pub fn yaml_in(file: &KeptFile) -> Option<(&Tree, &[u8])>
 {
     match &file.reading {
         Reading::Yaml(tree) => match &file.bytes {
-            Some(bytes) => Some((tree, bytes.as_slice())),
+            Some(bytes) => Some((tree, bytes.get().as_slice())),
             None => None,
         },
         Reading::Java(_) => None,

@@ -15,9 +15,10 @@
 //! The promise. The tree is the one of the file's entries (clause `tree` of `read_properties`), a file is refused for
 //! its size alone (`refused`, `too_large`), and `key_of`, `value_of`, `has_key`, `prefix_of_entry` and `key_leaf` say
 //! what the entry of that number is. `next_with_key` finds the entries with a key without a tree: what stands between
-//! them keeps its bytes. Laws, each a function that does nothing: the parts of the entries are the file's bytes
-//! (`parts_are_the_file`), the tree is one (`files_have_trees`), what `spell_key` and `spell_value` write reads back
-//! (`keys_read_back`, `values_read_back`, `files_read_back`), and no two classes are one number (`classes_differ`).
+//! them keeps its bytes. `PropertiesTree` is a file's tree to contracts, and keeps the bytes alone. Laws, each a function
+//! that does nothing: the parts of the entries are the file's bytes (`parts_are_the_file`), the tree is one
+//! (`files_have_trees`), what `spell_key` and `spell_value` write reads back (`keys_read_back`, `values_read_back`,
+//! `files_read_back`), and no two classes are one number (`classes_differ`).
 //!
 //! What must be believed stands in specs/, to be read in this order: `Characters`, `Lines`, `Entries` (what the entries
 //! of a file are), `Decoding` (what a key and a value say), `Layout` (the tree), `Refusal`, `Spelling`, `Keys`, `Laws`;
@@ -28,6 +29,7 @@
 mod bytes;
 mod decoding;
 mod keys;
+mod late_tree;
 mod laws;
 mod layout;
 mod lines;
@@ -39,6 +41,7 @@ mod starts;
 mod tree;
 
 pub use keys::{KeyPlace, next_with_key};
+pub use late_tree::PropertiesTree;
 pub use laws::{
     classes_differ, files_have_trees, files_read_back, keys_read_back, parts_are_the_file,
     values_read_back,

@@ -190,6 +190,22 @@ fn finish_tree(
     Ok(Tree::made(leaves, nodes, NodeId(count)))
 }
 
+/// Refuses a file of more bytes than are read.
+pub(crate) fn refuse_large(bytes: &[u8]) -> Result<(), ReadFault>
+    ensures fits { OnOk result (length bytes.now ≤ MOST_BYTES) }
+    ensures refused { (why : Refused) → result ≡ Err (ReadFault.Refused why) → IsTooLarge bytes.now why }
+    ensures too_large { MOST_BYTES < length bytes.now → result ≡ Err (ReadFault.Refused (too_large bytes.now)) }
+{
+    if bytes.len() > MOST_BYTES {
+        let place = place_of(bytes, MOST_BYTES);
+        return Err(ReadFault::Refused(Refused {
+            place,
+            cause: Cause::TooLarge,
+        }));
+    }
+    Ok(())
+}
+
 /// The tree of a properties file, for any bytes: for each entry a node of the kind `ENTRY` with the leaves of its key,
 /// separator, value and line end, each of which may be empty, and the file's node with the entries and the end.
 /// Comments, lines of blanks and leading blanks are prefixes. Refused with `Cause::TooLarge`, at byte 2,097,152, where
@@ -202,13 +218,7 @@ pub fn read_properties(alloc: Global, bytes: &[u8]) -> Result<Tree, ReadFault>
     ensures refused { (why : Refused) → result ≡ Err (ReadFault.Refused why) → IsTooLarge bytes.now why }
     ensures too_large { MOST_BYTES < length bytes.now → result ≡ Err (ReadFault.Refused (too_large bytes.now)) }
 {
-    if bytes.len() > MOST_BYTES {
-        let place = place_of(bytes, MOST_BYTES);
-        return Err(ReadFault::Refused(Refused {
-            place,
-            cause: Cause::TooLarge,
-        }));
-    }
+    refuse_large(bytes)?;
     // Room for the entries of a file with lines of usual length.
     let mut leaves = Vec::with_capacity(alloc, bytes.len() / 12)?;
     let mut nodes = Vec::with_capacity(alloc, bytes.len() / 48)?;

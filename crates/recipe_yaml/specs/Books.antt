@@ -4,8 +4,8 @@ use Rattle.std.specs.Prelude.{unwrap_or, Result, Ok, Err, if◌then◌else◌}
 use Rattle.std.specs.List.{list_any}
 use Rattle.std.specs.Str.{bytes_eq}
 use Rattle.rw_base.specs.declared.tree.NodeId.{NodeId}
-use Rattle.rw_base.specs.declared.reading.Reading.{Reading}
-use Rattle.rw_base.specs.declared.reading.Reading.TheVariants as reading
+use Rattle.kept_files.specs.declared.reading.Reading.{Reading}
+use Rattle.kept_files.specs.declared.reading.Reading.TheVariants as reading
 use Rattle.rw_base.specs.Arena.{Arena}
 use Rattle.kept_files.specs.Readings.{Reads}
 use Rattle.yaml_tree.specs.Scalars.{scalar_of}

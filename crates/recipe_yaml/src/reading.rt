@@ -22,8 +22,8 @@ use crate::names::is_known;
 use crate::node::{Slot, Value};
 use crate::parts::{document_value, entry_key, entry_value, last_leaf, nodes_of, value_at};
 use crate::root::{Root, RootKey};
-use kept_files::Readers;
-use rw_base::{Mem, NodeId, Place, Reading, Text, Tree, place_after, place_of};
+use kept_files::{Readers, Reading};
+use rw_base::{Mem, NodeId, Place, Shared, Text, Tree, place_after, place_of};
 use rw_host::Steps;
 use sqlite_items::Items;
 use std::alloc::Global;
@@ -623,7 +623,8 @@ pub fn read_recipes<L: Ledger>(
     ensures fault { (read : Reads) → AreReadings read → IfErr result (λ fault.
         fault ≢ RecipeFault.NoMemory → recipes_in read bytes.now ≡ Err fault) }
 {
-    let reading = readers.read_file(alloc, "recipes.yml", bytes, steps)?;
+    let text = Shared::new(alloc, Text::from_slice(alloc, bytes)?)?;
+    let reading = readers.read_file(alloc, "recipes.yml", &text, steps)?;
     let book = book_of(alloc, bytes, &reading)?;
     Ok(book)
 }

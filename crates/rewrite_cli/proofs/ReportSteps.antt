@@ -4,8 +4,8 @@ use Rattle.std.specs.Prelude.{codes, decimal, is_some}
 use Rattle.std.proofs.lemmas.List.{drop_all}
 use Rattle.rw_base.specs.declared.place.Place.{Place}
 use Rattle.rw_base.specs.declared.place.Refused.{Refused}
-use Rattle.rw_base.specs.declared.reading.Reading.{Reading}
-use Rattle.rw_base.specs.declared.reading.Reading.TheVariants as reading
+use Rattle.kept_files.specs.declared.reading.Reading.{Reading}
+use Rattle.kept_files.specs.declared.reading.Reading.TheVariants as reading
 use Rattle.kept_files.specs.States.{State}
 use Rattle.kept_files.specs.declared.file.KeptFile.{KeptFile}
 use Rattle.scheduler.specs.declared.event.DropCause.{DropCause}

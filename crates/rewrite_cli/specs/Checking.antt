@@ -6,8 +6,8 @@ use Rattle.std.specs.FinMap as map
 use Rattle.rw_base.specs.declared.place.Cause.{Cause}
 use Rattle.rw_base.specs.declared.place.Cause.TheVariants.{NotUtf8, BadLeaf, Unexpected, Unfinished, TooLarge, TooDeep}
 use Rattle.rw_base.specs.declared.place.Refused.{Refused}
-use Rattle.rw_base.specs.declared.reading.Reading.{Reading}
-use Rattle.rw_base.specs.declared.reading.Reading.TheVariants as reading
+use Rattle.kept_files.specs.declared.reading.Reading.{Reading}
+use Rattle.kept_files.specs.declared.reading.Reading.TheVariants as reading
 use Rattle.rw_host.specs.Files.{Files, first_bytes}
 use Rattle.kept_files.specs.Readings.{Reads}
 use Rattle.rewrite_cli.specs.declared.sources.TheConstants.{MOST_READ}

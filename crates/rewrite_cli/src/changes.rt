@@ -32,7 +32,7 @@ fn is_same(a: &[u8], b: &[u8]) -> bool
     a == b
 }
 
-fn same_bytes(a: &Option<Text>, b: &Option<Text>) -> bool
+fn same_bytes(a: &Option<Shared<Text>>, b: &Option<Shared<Text>>) -> bool
     ensures { result ≡ same_bytes a.now b.now }
 {
     match a {
@@ -42,7 +42,7 @@ fn same_bytes(a: &Option<Text>, b: &Option<Text>) -> bool
         },
         Some(a) => match b {
             None => false,
-            Some(b) => is_same(a.as_slice(), b.as_slice()),
+            Some(b) => is_same(a.get().as_slice(), b.get().as_slice()),
         },
     }
 }
@@ -123,7 +123,14 @@ pub fn changes_between(
 
 // ---- what is written
 
-#[tactic(auto, unfolding(journal_text::specs::Changes::gate, journal_text::specs::Changes::journal, crate::specs::Histories::history_path))]
+#[tactic(
+    auto,
+    unfolding(
+        journal_text::specs::Changes::gate,
+        journal_text::specs::Changes::journal,
+        crate::specs::Histories::history_path
+    )
+)]
 fn is_kept_out(path: &str) -> bool
     ensures { result ≡ is_kept_out path.now }
 {
@@ -160,7 +167,7 @@ fn push_written(alloc: Global, out: &mut Vec<Entry>, file: &KeptFile, is_removal
     if is_removal {
         out.push(Entry { path, bytes: None })?;
     } else if let Some(bytes) = &file.bytes {
-        let bytes = Some(Vec::from_slice(alloc, bytes.as_slice())?);
+        let bytes = Some(Vec::from_slice(alloc, bytes.get().as_slice())?);
         out.push(Entry { path, bytes })?;
     }
     Ok(())

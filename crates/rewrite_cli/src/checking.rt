@@ -19,9 +19,9 @@ use crate::limits::{Limit, MOST_IN_ALL};
 use crate::sources::{MOST_READ, count_read, is_read, list_paths};
 use crate::stop::{Done, Stop};
 use crate::text::{put_number, put_refusal};
-use kept_files::Readers;
+use kept_files::{Readers, Reading};
 use run_journal::Entry;
-use rw_base::{Mem, Reading, Refused};
+use rw_base::{Mem, Refused, Shared, Text};
 use rw_host::{PathText, Steps, Store};
 use standing_files::read_standing;
 use std::alloc::Global;
@@ -62,13 +62,14 @@ fn refusal_of<L: Ledger>(
     alloc: Global,
     readers: &Readers,
     path: &str,
-    bytes: &[u8],
+    bytes: Vec<u8>,
     steps: &mut Steps<L>,
 ) -> Mem<Option<Refused>>
     ensures { (read : Reads) → AreReadings read →
-        IfOk result (λ refusal. refusal ≡ refusal_in (read path.now (Some bytes.now))) }
+        IfOk result (λ refusal. refusal ≡ refusal_in (read path.now (Some bytes.items))) }
 {
-    let reading = readers.read_file(alloc, path, bytes, steps)?;
+    let bytes = Shared::new(alloc, Text::from_vec(bytes))?;
+    let reading = readers.read_file(alloc, path, &bytes, steps)?;
     Ok(refusal_in(reading))
 }
 
@@ -86,7 +87,14 @@ fn note_refusal(findings: &mut Findings, path: &str, refusal: Option<Refused>) -
 }
 
 // Reads the file at a path, where it is one that is read, and notes whether it is refused.
-#[tactic(auto, using(crate::proofs::FoundInFile::found_there, crate::proofs::SourceSteps::read_stops, crate::proofs::Idling::idling))]
+#[tactic(
+    auto,
+    using(
+        crate::proofs::FoundInFile::found_there,
+        crate::proofs::SourceSteps::read_stops,
+        crate::proofs::Idling::idling
+    )
+)]
 fn check_file<S: Store, L: Ledger>(
     alloc: Global,
     store: &mut S,
@@ -108,7 +116,8 @@ fn check_file<S: Store, L: Ledger>(
         findings.new.bytes ≡ findings.old.bytes + bytes_at (laid entries.now (S.files store.old)) path.now) }
     ensures in_limit { OnOk result (findings.new.bytes ≤ MOST_IN_ALL) }
     ensures past_limit { IsTrue S.tells_files → (limit : Limit) → result ≡ Err (Stop.Limit limit) →
-        (limit ≡ Limit.Bytes) × (MOST_IN_ALL < findings.old.bytes + bytes_at (laid entries.now (S.files store.old)) path.now) }
+        (limit ≡ Limit.Bytes)
+        × (MOST_IN_ALL < findings.old.bytes + bytes_at (laid entries.now (S.files store.old)) path.now) }
     ensures files { S.files store.new ≡ S.files store.old }
     ensures idle { Idle S.tells_images S.is_unsynced S.moment S.left_since S.image store.old store.new }
     ensures cause { result ≡ Err Stop.ReadFault → Rose (S.read_faults store.old) (S.read_faults store.new) }
@@ -125,7 +134,7 @@ fn check_file<S: Store, L: Ledger>(
     if all > MOST_IN_ALL {
         return Err(Stop::Limit(Limit::Bytes));
     }
-    let refusal = refusal_of(alloc, readers, path, &bytes, steps)?;
+    let refusal = refusal_of(alloc, readers, path, bytes, steps)?;
     note_refusal(findings, path, refusal)?;
     findings.bytes = all;
     Ok(())
@@ -147,10 +156,13 @@ fn check_files<S: Store, L: Ledger>(
     requires parts { blank.parts ≡ L.parts }
     requires some_part { 0 < L.parts }
     ensures text { IsTrue S.tells_files → (read : Reads) → AreReadings read → OnOk result (
-        findings.new.text.items ≡ findings.old.text.items ++ lines read (laid entries.now (S.files store.old)) paths.items) }
+        findings.new.text.items
+        ≡ findings.old.text.items ++ lines read (laid entries.now (S.files store.old)) paths.items) }
     ensures refused { IsTrue S.tells_files → (read : Reads) → AreReadings read → OnOk result (
-        findings.new.any_refused ≡ (findings.old.any_refused || any_refused read (laid entries.now (S.files store.old)) paths.items)) }
-    ensures in_limit { IsTrue S.tells_files → OnOk result (bytes_read (laid entries.now (S.files store.old)) paths.items ≤ MOST_IN_ALL) }
+        findings.new.any_refused
+        ≡ (findings.old.any_refused || any_refused read (laid entries.now (S.files store.old)) paths.items)) }
+    ensures in_limit { IsTrue S.tells_files → OnOk result (
+        bytes_read (laid entries.now (S.files store.old)) paths.items ≤ MOST_IN_ALL) }
     ensures past_limit { IsTrue S.tells_files → (limit : Limit) → result ≡ Err (Stop.Limit limit) →
         (limit ≡ Limit.Bytes) × (MOST_IN_ALL < bytes_read (laid entries.now (S.files store.old)) paths.items) }
     ensures files { S.files store.new ≡ S.files store.old }
@@ -176,7 +188,15 @@ fn check_files<S: Store, L: Ledger>(
 }
 
 // Reads the files of a store that has these paths, few enough, and tells which of them are refused.
-#[tactic(auto, using(crate::proofs::Answering::answered, crate::proofs::SourceSteps::all_found, crate::proofs::SourceSteps::read_stops, crate::proofs::Idling::idling))]
+#[tactic(
+    auto,
+    using(
+        crate::proofs::Answering::answered,
+        crate::proofs::SourceSteps::all_found,
+        crate::proofs::SourceSteps::read_stops,
+        crate::proofs::Idling::idling
+    )
+)]
 fn check_listed<S: Store>(
     alloc: Global,
     store: &mut S,
@@ -187,9 +207,11 @@ fn check_listed<S: Store>(
     requires listed { IsTrue S.tells_files → paths.items ≡ map.keys (laid entries.now (S.files store.old)) }
     requires few_listed { IsTrue S.tells_files → map.len (S.files store.old) ≤ MOST_PATHS }
     requires few_paths { IsTrue S.tells_files → map.len (laid entries.now (S.files store.old)) ≤ MOST_PATHS }
-    requires few_files { IsTrue S.tells_files → count_read (map.keys (laid entries.now (S.files store.old))) ≤ MOST_FILES }
+    requires few_files { IsTrue S.tells_files →
+        count_read (map.keys (laid entries.now (S.files store.old))) ≤ MOST_FILES }
     ensures answer { IsTrue S.tells_files → (meanings : Meanings) → AreMeanings meanings →
-        IsAnswered (check_answer meanings (S.files store.old) (laid entries.now (S.files store.old))) result (S.files store.new) }
+        IsAnswered (check_answer meanings (S.files store.old) (laid entries.now (S.files store.old))) result
+        (S.files store.new) }
     ensures files { S.files store.new ≡ S.files store.old }
     ensures idle { Idle S.tells_images S.is_unsynced S.moment S.left_since S.image store.old store.new }
     ensures cause { result ≡ Err Stop.ReadFault → Rose (S.read_faults store.old) (S.read_faults store.new) }
@@ -219,7 +241,8 @@ pub fn check_repository<S: Store>(
 ) -> Result<Done, Stop>
     requires { Rises [] (changes_of entries.now) }
     ensures answer { IsTrue S.tells_files → (meanings : Meanings) → AreMeanings meanings →
-        IsAnswered (check_answer meanings (S.files store.old) (laid entries.now (S.files store.old))) result (S.files store.new) }
+        IsAnswered (check_answer meanings (S.files store.old) (laid entries.now (S.files store.old))) result
+        (S.files store.new) }
     ensures files { S.files store.new ≡ S.files store.old }
     ensures idle { Idle S.tells_images S.is_unsynced S.moment S.left_since S.image store.old store.new }
     ensures cause { result ≡ Err Stop.ReadFault → Rose (S.read_faults store.old) (S.read_faults store.new) }

@@ -278,8 +278,10 @@ pub fn commit_changes<S: Store>(
     ensures synced { OnOk result (S.is_unsynced store.new ≡ false) }
     ensures one_image { IsTrue S.tells_images → OnOk result (Only (S.files store.new) (S.image store.new)) }
     ensures any_moment { IsTrue S.tells_images → Leaves S.moment S.left_since S.image store.old store.new
-        (IsLeftByCommit (batch_of changes.now) (run_batch runs.now (asked_told asked.entry) (ran_told ran.now)) (S.files store.old))
-        (IsLeftByCommit (batch_of changes.now) (run_batch runs.now (asked_told asked.entry) (ran_told ran.now)) (S.files store.old)) }
+        (IsLeftByCommit (batch_of changes.now)
+        (run_batch runs.now (asked_told asked.entry) (ran_told ran.now)) (S.files store.old))
+        (IsLeftByCommit (batch_of changes.now)
+        (run_batch runs.now (asked_told asked.entry) (ran_told ran.now)) (S.files store.old)) }
     ensures unchanged { IfErr result (λ stop. stop ≢ Stop.WriteFault → S.files store.new ≡ S.files store.old) }
     ensures read_fault { result ≡ Err Stop.ReadFault → Rose (S.read_faults store.old) (S.read_faults store.new) }
     ensures write_fault { result ≡ Err Stop.WriteFault → Rose (S.write_faults store.old) (S.write_faults store.new) }

@@ -1,24 +1,29 @@
 //! The program: applies the recipes of a `rewrite.yml` to the files of the current folder, or tells which files aren't
-//! read.
+//! read, what a stopped run still has to do, and which runs there were.
 //!
 //! ```text
 //! rewrite run --recipe shop.Upgrade
 //! rewrite dry --recipe shop.Upgrade
 //! rewrite check
+//! rewrite recover
+//! rewrite history
 //! ```
 //!
 //! `main` hands the words, the real folder and standard output to the call `rewrite`, which is written for any store
 //! and sink and answers the exit status. What a command answers over a repository is one definition, `answer`: the
 //! status, the text and the files that are left. Where no fault comes in between, the status is that of the answer
 //! (`rewrite`, clause `status`), the files are those that it leaves (`files`), and its text was put (`text`, `line`). 2
-//! comes exactly where the words are others (`usage`). 4, 5 and 7 come only where a count of faults rose (`read_fault`,
-//! `write_fault`, `sink_fault`); at 4 and 6 no file has changed (`unchanged`), and at 5 the first changes, in the order
-//! of their paths, were made (`part`). No clause speaks of workers.
+//! comes exactly where the words are others (`usage`), and then the store isn't used (`unused`). 4, 5 and 7 come only
+//! where a count of faults rose (`read_fault`, `write_fault`, `sink_fault`). At 3, 4, 6, 8 and 9 no file has changed but
+//! by the recovery that `run` and `recover` begin with (`unchanged`). Wherever a command is stopped, a crash leaves
+//! files that stand for the old repository or for the new one (`any_moment`); after `run` and `recover` answer 0, 1 or 7
+//! for the new one alone (`one_image`), with nothing left to sync (`synced`). No clause speaks of workers.
 //!
-//! Definitions, in this order: `Words` (what the words ask for), `Sources` and `Limits` (which files are read, and how
-//! many there may be), `Meanings` and `Opening` (the state and the plan that a run begins with), `Running` (how a
-//! recipe ends over a repository, by the scheduler's `run`), `Changes` (what is written), `Report` and `Checking` (the
-//! texts), `Answers`, `Statuses`. `Asking` and `Ends` serve private functions alone.
+//! Definitions, in this order: `Sources` and `Limits` (which files are read, and how many there may be), `Meanings` and
+//! `Opening` (the state and the plan that a run begins with), `Running` (how a recipe ends over a repository, by the
+//! scheduler's `run`), `Changes` (what is written), `Report` and `Checking` (the texts), `Histories` and `Journals` (the
+//! runs before, and what a stopped one left), `Answers`, `Statuses`, `Moments` (old or new). The words are those of the
+//! crate `command_words`. `Ends` and `Prepared` serve private functions alone.
 #![tactic(auto)]
 
 mod changes;

@@ -15,8 +15,8 @@ use crate::running::Ran;
 use crate::stop::Done;
 use crate::text::{name_of, put_number, put_refusal};
 use command_words::Asked;
-use kept_files::KeptFile;
-use rw_base::{Mem, Place, Reading, Shared};
+use kept_files::{KeptFile, Reading};
+use rw_base::{Mem, Place, Shared};
 use scheduler::{DropCause, Event};
 use std::alloc::Global;
 

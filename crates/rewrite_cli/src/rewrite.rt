@@ -187,12 +187,12 @@ fn perform<S: Store>(alloc: Global, store: &mut S, command: Command) -> Result<D
 /// | `recover` | a commit that was stopped is finished; `run` begins with this too |
 /// | `history` | the runs that changed files are told |
 ///
-/// Behind the first three may stand `--workers N`, from 1 to 64, and behind the first two `--cycles N`, from 1 to 10, in
-/// any order. Where a commit was stopped, `dry`, `check` and `history` see what `recover` would leave.
+/// Behind the first three may stand `--workers N`, from 1 to 64, and behind the first two `--cycles N`, from 1 to 10,
+/// in any order. Where a commit was stopped, `dry`, `check` and `history` see what `recover` would leave.
 ///
 /// | status | when | text |
 /// |---|---|---|
-/// | 0 | done, and nothing is told of a file | of `run` and `dry` the report, of `check` `files N`, `recovered N`, the runs |
+/// | 0 | done, and nothing is told of a file | the report, `files N`, `recovered N`, or the runs |
 /// | 1 | done, some file is refused or some edit was dropped | the same with a line for each |
 /// | 2 | the words are others; the store isn't used | the usage line |
 /// | 3 | the recipe file or the plan has a fault | `recipe fault N at L:C`, or without a place |

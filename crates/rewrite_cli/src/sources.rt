@@ -73,7 +73,14 @@ fn push_unread(found: &mut Found, path: PathText) -> Mem<()>
 }
 
 // Reads the file at a path, where it is a source file that is read, and puts it behind the others.
-#[tactic(auto, using(crate::proofs::SourceSteps::found_at, crate::proofs::FoundInFile::found_there, crate::proofs::Idling::idling))]
+#[tactic(
+    auto,
+    using(
+        crate::proofs::SourceSteps::found_at,
+        crate::proofs::FoundInFile::found_there,
+        crate::proofs::Idling::idling
+    )
+)]
 fn find_file<S: Store>(
     alloc: Global,
     store: &mut S,
@@ -130,7 +137,8 @@ fn find_files<S: Store>(
     ensures files { IsTrue S.tells_files → IfOk result (λ files.
         files.items ≡ sources_at (laid entries.now (S.files store.old)) paths.items) }
     ensures in_order { IfOk result (λ files. IsInOrder (paths_of files.items)) }
-    ensures in_limit { IsTrue S.tells_files → OnOk result (bytes_read (laid entries.now (S.files store.old)) paths.items ≤ MOST_IN_ALL) }
+    ensures in_limit { IsTrue S.tells_files → OnOk result (
+        bytes_read (laid entries.now (S.files store.old)) paths.items ≤ MOST_IN_ALL) }
     ensures past_limit { IsTrue S.tells_files → (limit : Limit) → result ≡ Err (Stop.Limit limit) →
         (limit ≡ Limit.Bytes) × (MOST_IN_ALL < bytes_read (laid entries.now (S.files store.old)) paths.items) }
     ensures store_files { S.files store.new ≡ S.files store.old }
@@ -158,7 +166,8 @@ pub fn list_paths<S: Store>(
     entries: &[Entry],
 ) -> Result<Vec<PathText>, Stop>
     requires { Rises [] (changes_of entries.now) }
-    ensures paths { IsTrue S.tells_files → IfOk result (λ paths. paths.items ≡ map.keys (laid entries.now (S.files store.old))) }
+    ensures paths { IsTrue S.tells_files → IfOk result (λ paths.
+        paths.items ≡ map.keys (laid entries.now (S.files store.old))) }
     ensures in_order { IfOk result (λ paths. IsInOrder paths.items) }
     ensures few_listed { IsTrue S.tells_files → OnOk result (map.len (S.files store.old) ≤ MOST_PATHS) }
     ensures few_paths { IsTrue S.tells_files →
@@ -193,9 +202,11 @@ pub fn source_files<S: Store>(
     entries: &[Entry],
 ) -> Result<Vec<SourceFile>, Stop>
     requires { Rises [] (changes_of entries.now) }
-    ensures files { IsTrue S.tells_files → IfOk result (λ files. files.items ≡ sources_of (laid entries.now (S.files store.old))) }
+    ensures files { IsTrue S.tells_files → IfOk result (λ files.
+        files.items ≡ sources_of (laid entries.now (S.files store.old))) }
     ensures in_order { IfOk result (λ files. IsInOrder (paths_of files.items)) }
-    ensures in_limits { IsTrue S.tells_files → OnOk result (limit_of (S.files store.old) (laid entries.now (S.files store.old)) ≡ None) }
+    ensures in_limits { IsTrue S.tells_files → OnOk result (
+        limit_of (S.files store.old) (laid entries.now (S.files store.old)) ≡ None) }
     ensures past_limit { IsTrue S.tells_files → (limit : Limit) → result ≡ Err (Stop.Limit limit) →
         limit_of (S.files store.old) (laid entries.now (S.files store.old)) ≡ Some limit }
     ensures store_files { S.files store.new ≡ S.files store.old }

@@ -274,8 +274,8 @@ fn is_new<S: Store>(alloc: Global, store: &mut S) -> Result<bool, Fail> {
     )
 }
 
-// Wherever the run is stopped and whatever the crash leaves of what wasn't synced, a recovery gives all of the old files
-// or all of the new ones.
+// Wherever the run is stopped and whatever the crash leaves of what wasn't synced, a recovery gives all of the old
+// files or all of the new ones.
 #[test]
 fn stopped_runs_leave_old_or_new(rt: HostRuntime) -> Result<(), Fail> {
     let alloc = rt.alloc();

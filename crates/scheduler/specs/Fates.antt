@@ -5,8 +5,8 @@ use Rattle.std.specs.Str.{bytes_eq}
 use Rattle.rw_base.specs.Arena.{Arena}
 use Rattle.rw_base.specs.NewText.{new_text}
 use Rattle.rw_base.specs.declared.edit.Edit.{Edit}
-use Rattle.rw_base.specs.declared.reading.Reading.{Reading}
-use Rattle.rw_base.specs.declared.reading.Reading.TheVariants as reading
+use Rattle.kept_files.specs.declared.reading.Reading.{Reading}
+use Rattle.kept_files.specs.declared.reading.Reading.TheVariants as reading
 use Rattle.rw_host.specs.declared.file.FileEdit.{FileEdit}
 use Rattle.rw_host.specs.declared.file.FileEdit.TheVariants as edit
 use Rattle.kept_files.specs.Readings.{Reads}

@@ -13,9 +13,9 @@ ghost use Rattle.scheduler.specs.Steps.{IsFateKept};
 use crate::dispatch::edits_of;
 use crate::fate::Fate;
 use j_repair::Attributed;
-use kept_files::{KeptFile, KeptFiles, ScanValue};
+use kept_files::{KeptFile, KeptFiles, Reading, ScanValue};
 use recipe_yaml::{Condition, Plan, PlannedLeaf};
-use rw_base::{Edit, Mem, Reading, Shared, Text, Tree, rearranged};
+use rw_base::{Edit, Mem, Shared, Text, Tree, rearranged};
 use rw_host::{FileEdit, PathText, Steps};
 use sqlite_items::Items;
 use std::alloc::Global;
@@ -123,17 +123,6 @@ fn holds(alloc: Global, plan: &Plan, leaf: &PlannedLeaf, kept: &Attributed, file
     Ok(are_met(&met, leaf.conditions.as_slice()))
 }
 
-fn tree_in(reading: &Reading) -> Option<&Tree>
-    ensures { option_copied result ≡ tree_in reading.now }
-{
-    match reading {
-        Reading::Java(tree) => Some(tree),
-        Reading::Yaml(tree) => Some(tree),
-        Reading::Properties(tree) => Some(tree),
-        _ => None,
-    }
-}
-
 // The new bytes of a file with these edits of its tree.
 #[tactic(auto, using(crate::proofs::Decided::edited_is))]
 fn edited(alloc: Global, file: &KeptFile, edits: &[Edit]) -> Mem<Vec<u8>>
@@ -141,20 +130,26 @@ fn edited(alloc: Global, file: &KeptFile, edits: &[Edit]) -> Mem<Vec<u8>>
     requires fit { FitTree (tree_in file.now.reading) edits.now }
     ensures { IfOk result (λ text. text.items ≡ edited file.now edits.now) }
 {
-    if let (Some(tree), Some(bytes)) = (tree_in(&file.reading), &file.bytes) {
-        let text = rearranged(alloc, tree, bytes.as_slice(), edits)?;
-        return Ok(text);
+    let Some(bytes) = &file.bytes else {
+        return Ok(Vec::new(alloc));
+    };
+    match &file.reading {
+        Reading::Java(tree) => rearranged(alloc, tree, bytes.get().as_slice(), edits),
+        Reading::Yaml(tree) => rearranged(alloc, tree, bytes.get().as_slice(), edits),
+        Reading::Properties(tree) => {
+            let tree = tree.made(alloc)?;
+            rearranged(alloc, &tree, bytes.get().as_slice(), edits)
+        }
+        _ => Ok(Vec::new(alloc)),
     }
-    Ok(Vec::new(alloc))
 }
 
 // A file of these bytes, where its reader doesn't refuse them.
 #[tactic(auto, using(crate::proofs::Decided::accepted_by))]
-fn accepted(alloc: Global, path: PathText, bytes: Vec<u8>, reading: Reading) -> Mem<Fate>
-    requires reading { IsReading path (Some bytes.items) reading }
-    requires whole { EndsWith bytes.items reading }
-    ensures is { (read : Reads) → reading ≡ read path (Some bytes.items)
-        → IfOk result (λ d. d ≡ read_anew read path bytes.items) }
+fn accepted(alloc: Global, path: PathText, bytes: Shared<Text>, reading: Reading) -> Mem<Fate>
+    requires reading { IsReading path (Some bytes) reading }
+    requires whole { EndsWith bytes reading }
+    ensures is { (read : Reads) → reading ≡ read path (Some bytes) → IfOk result (λ d. d ≡ read_anew read path bytes) }
     ensures kept { IfOk result IsFateKept }
 {
     if let Reading::Refused(refused) = &reading {
@@ -162,7 +157,7 @@ fn accepted(alloc: Global, path: PathText, bytes: Vec<u8>, reading: Reading) -> 
     }
     let file = KeptFile {
         path,
-        bytes: Some(Text::from_vec(bytes)),
+        bytes: Some(bytes),
         reading,
     };
     Ok(Fate::Becomes(Shared::new(alloc, file)?))
@@ -180,6 +175,7 @@ fn read_anew<L: Ledger>(
     ensures is { (read : Reads) → AreReadings read → IfOk result (λ d. d ≡ read_anew read path bytes.items) }
     ensures kept { IfOk result IsFateKept }
 {
+    let bytes = Shared::new(alloc, Text::from_vec(bytes))?;
     let reading = kept.read_file(alloc, path.as_str(), &bytes, steps)?;
     let fate = accepted(alloc, path, bytes, reading)?;
     Ok(fate)

@@ -14,7 +14,7 @@ fn is_same(one: &[u8], other: &[u8]) -> bool
     one == other
 }
 
-fn same_bytes(one: &Option<Text>, other: &Option<Text>) -> bool
+fn same_bytes(one: &Option<Shared<Text>>, other: &Option<Shared<Text>>) -> bool
     ensures { result ≡ same_bytes one.now other.now }
 {
     match one {
@@ -24,7 +24,7 @@ fn same_bytes(one: &Option<Text>, other: &Option<Text>) -> bool
         },
         Some(one) => match other {
             None => false,
-            Some(other) => is_same(one.as_slice(), other.as_slice()),
+            Some(other) => is_same(one.get().as_slice(), other.get().as_slice()),
         },
     }
 }
