@@ -3,6 +3,7 @@ pub mod Written
 pub mod Copied
 pub mod Lacking
 pub mod FilesEdited
+pub mod Renamed
 pub mod LastEnd
 pub mod Deleted
 pub mod LeafSizes

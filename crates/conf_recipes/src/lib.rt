@@ -48,7 +48,7 @@ pub use file_recipes::{edits_of_delete_source_files, edits_of_find_source_files,
 pub use properties::edits_in_properties;
 pub use properties_recipes::{
     edits_of_add_property, edits_of_change_property_value, edits_of_delete_property,
-    edits_of_properties_change_property_key,
+    edits_of_properties_change_property_key, renamed_in_file,
 };
 pub use recipe_laws::{added_entries_stand_at_the_end, deletes_leave_the_rest};
 pub use renaming::{edits_write_keys, renamed_in_properties};

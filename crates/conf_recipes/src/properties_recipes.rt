@@ -1,6 +1,7 @@
 // What the recipes on properties files do to a file of a repository.
 ghost use Rattle.std.specs.Prelude.{◌≡◌, ◌<◌, length, IfOk};
-ghost use Rattle.kept_files.specs.FileEdits.{FitsFile};
+ghost use Rattle.std.specs.Option.{option_map};
+ghost use Rattle.kept_files.specs.FileEdits.{FitsFile, text_after};
 ghost use Rattle.kept_files.specs.States.{file_at, IsKept};
 ghost use Rattle.conf_recipes.specs.PropertiesRecipes.{properties_key_changed, property_deleted};
 ghost use Rattle.conf_recipes.specs.PropertiesRecipes.{has_entry, property_value_changed, property_added};
@@ -10,6 +11,7 @@ use crate::adding::adds_in_properties;
 use crate::deleting::deletes_in_properties;
 use crate::file_edits::with_edits;
 use crate::properties::edits_in_properties;
+use crate::renaming::renamed_in_properties;
 use crate::values::values_in_properties;
 use kept_files::{KeptFile, KeptFiles, properties_in};
 use properties_tree::{
@@ -63,6 +65,25 @@ pub fn edits_of_properties_change_property_key<K: KeptFiles>(
     ensures fit { IfOk result (λ e. FitsFile (file_at (K.files kept.now) file) e) }
 {
     key_changed_in(alloc, kept.file(file as usize), options)
+}
+
+/// The new bytes of a file by `org.openrewrite.properties.ChangePropertyKey`, in one pass over the old ones; `None`
+/// where it makes no edit.
+#[tactic(auto, using(crate::proofs::Renamed::texts))]
+pub fn renamed_in_file(
+    alloc: Global,
+    file: &KeptFile,
+    options: &PropertiesChangePropertyKey,
+) -> Mem<Option<Vec<u8>>>
+    requires { IsKept file.now }
+    ensures { IfOk result (λ text. option_map (λ v. v.items) text
+        ≡ text_after file.now (properties_key_changed options.now file.now)) }
+{
+    let Some((_, bytes)) = properties_in(file) else {
+        return Ok(None);
+    };
+    let text = renamed_in_properties(alloc, bytes, options)?;
+    Ok(text)
 }
 
 #[tactic(auto, using(crate::proofs::FilesEdited::properties_deleted))]

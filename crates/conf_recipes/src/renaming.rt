@@ -1,8 +1,10 @@
 // A renaming of keys in one pass over a file's bytes.
-ghost use Rattle.std.specs.Prelude.{◌≡◌, ◌≤◌, ◌++◌, length, slice_range, IfOk, OnOk};
+ghost use Rattle.std.specs.Prelude.{◌≡◌, ◌≤◌, ◌++◌, is_some, length, slice_range, IfOk, OnOk};
 ghost use Rattle.std.specs.Option.{option_map};
+ghost use Rattle.properties_tree.specs.Entries.{properties_of};
 ghost use Rattle.properties_tree.specs.Keys.{IsKeyPlace, with_key};
 ghost use Rattle.conf_recipes.specs.PropertiesEdits.{EditsWriteKeys, IsRenamed};
+ghost use Rattle.conf_recipes.specs.PropertiesRecipes.{has_entry};
 
 use properties_tree::{KeyPlace, PropertiesChangePropertyKey, next_with_key, spell_key};
 use rw_base::{MOST_BYTES, Mem};
@@ -53,15 +55,17 @@ fn write_keys(
 }
 
 /// The new text of a properties file of at most `MOST_BYTES`, with the edits of
-/// `org.openrewrite.properties.ChangePropertyKey`; `None` only where that is the old text. It makes no tree and no
-/// edits.
+/// `org.openrewrite.properties.ChangePropertyKey`; `None` where it makes none. It makes no tree and no edits.
+#[tactic(auto, using(crate::proofs::Lacking::entries_told))]
 pub fn renamed_in_properties(
     alloc: Global,
     bytes: &[u8],
     options: &PropertiesChangePropertyKey,
 ) -> Mem<Option<Vec<u8>>>
     requires { length bytes.now ≤ MOST_BYTES }
-    ensures { IfOk result (λ text. IsRenamed bytes.now options.now (option_map (λ v. v.items) text)) }
+    ensures text { IfOk result (λ text. IsRenamed bytes.now options.now (option_map (λ v. v.items) text)) }
+    ensures edits { IfOk result (λ text.
+        is_some text ≡ has_entry options.now.old_property_key (properties_of bytes.now).entries) }
 {
     edits_write_keys();
     let key = options.old_property_key.as_slice();

@@ -2,6 +2,7 @@
 use Rattle.std.proofs.Common.{◌≡◌, ℕ, zero, suc, ◌<◌, ◌+◌, ◌-◌, ◌^◌, ◌≤◌, min, nat_lt, Bool, true, false, ◌||◌, List, [], ◌∷◌, ◌++◌, length, take, drop, get_or, set, refl, sym, ap, ◌∙◌, subst, arith, add-one, drop-cons, append_assoc, Some, None, Result, Ok, Err, if◌then◌else◌}
 use Rattle.std.proofs.lemmas.List.{get_or_default, take_more, take_all, set_split, drop_all}
 use Rattle.std.proofs.lemmas.List.Folds.{list_any_more, list_any_at}
+use Rattle.std.proofs.lemmas.Bool.Decides.{nat_tests}
 use Rattle.std.specs.Prelude.{slice_index_or}
 use Rattle.std.specs.List.{list_any}
 use Rattle.std.specs.Str.{bytes_eq}
@@ -170,6 +171,29 @@ tree_by Yaml bytes t e = absurd (not_yaml t e.0 e.1.1)
 tree_by Properties bytes t e = small_or_refused (nat_lt MOST_BYTES (length bytes)) t bytes e
 tree_by Other bytes t e = absurd (cc)
 
+is_small : (b : Bool) (t : Arena) (bytes : List ℕ)
+    → reading.Properties t ≡ (if b then reading.Refused (too_large bytes) else reading.Properties (tree_of bytes))
+    → b ≡ false
+is_small true t bytes e = absurd (cc)
+is_small false t bytes e = refl
+
+at_most : (a b : ℕ) → nat_lt a b ≡ false → b ≤ a
+at_most a b h = grind (arith, nat_tests)
+
+size_by : (k : FileKind) (bytes : List ℕ) (t : Arena) → IsReadAs k bytes (reading.Properties t)
+    → length bytes ≤ MOST_BYTES
+unfolding IsReadAs properties_reading
+size_by Java bytes t e = absurd (not_java t e.0 e.1.1)
+size_by Yaml bytes t e = absurd (not_yaml t e.0 e.1.1)
+size_by Properties bytes t e =
+    at_most MOST_BYTES (length bytes) (is_small (nat_lt MOST_BYTES (length bytes)) t bytes e)
+size_by Other bytes t e = absurd (cc)
+
+properties_size : (path bytes : List ℕ) (t : Arena) → IsReading path (Some bytes) (reading.Properties t)
+    → length bytes ≤ MOST_BYTES
+unfolding IsReading
+properties_size path bytes t e = size_by (kind_of path) bytes t e
+
 properties_tree : (path bytes : List ℕ) (t : Arena) → IsReading path (Some bytes) (reading.Properties t) → t ≡ tree_of bytes
 unfolding IsReading
 properties_tree path bytes t e = tree_by (kind_of path) bytes t e
@@ -177,6 +201,12 @@ properties_tree path bytes t e = tree_by (kind_of path) bytes t e
 -- the tree of a properties file is that of its bytes
 pub tree_is : (f : KeptFile) (t : Arena) (bytes : List ℕ) → IsKept f → f.reading ≡ reading.Properties t → f.bytes ≡ Some bytes → t ≡ tree_of bytes
 tree_is f t bytes k e b = properties_tree f.path bytes t (subst (λ r. IsReading f.path (Some bytes) r) e (subst (λ o. IsReading f.path o f.reading) b k.reading))
+
+pub size_is : (f : KeptFile) (t : Arena) (bytes : List ℕ) → IsKept f → f.reading ≡ reading.Properties t
+    → f.bytes ≡ Some bytes → length bytes ≤ MOST_BYTES
+size_is f t bytes k e b =
+    properties_size f.path bytes t (subst (λ r. IsReading f.path (Some bytes) r) e
+    (subst (λ o. IsReading f.path o f.reading) b k.reading))
 
 -- a tree ends where the bytes end
 pub ends_at : (f : KeptFile) (t : Arena) (bytes : List ℕ) → IsKept f → f.reading ≡ reading.Yaml t → f.bytes ≡ Some bytes → length bytes ≡ end_of t
@@ -238,6 +268,7 @@ read_as_yaml f t e = rw e refl
 
 pub ruleset trees = (
   tree_is,
+  size_is,
   ends_at,
   properties_are,
   no_properties,

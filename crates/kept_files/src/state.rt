@@ -6,6 +6,7 @@ ghost use Rattle.std.specs.Str.{bytes_eq};
 ghost use Rattle.std.specs.Ordering.{nat_cmp};
 ghost use Rattle.std.specs.Cmp.Lexicographic.{slice_cmp};
 ghost use Rattle.rw_base.specs.Arena.{end_of};
+ghost use Rattle.rw_base.specs.declared.leaves.TheConstants.{MOST_BYTES};
 ghost use Rattle.properties_tree.specs.Layout.{tree_of};
 ghost use Rattle.kept_files.specs.States.{State, AreKept, IsKept, file_at, has_path, held_by, held_bytes, put_file};
 ghost use Rattle.kept_files.specs.States.{properties_in, tree_in, yaml_in};
@@ -120,6 +121,7 @@ pub fn properties_in(file: &KeptFile) -> Option<(&PropertiesTree, &[u8])>
     requires { IsKept file.now }
     ensures found { option_map (λ p. (p.0.now, p.1.now)) result ≡ properties_in file.now }
     ensures tree { IfSome result (λ p. p.0.now ≡ tree_of p.1.now) }
+    ensures size { IfSome result (λ p. length p.1.now ≤ MOST_BYTES) }
     ensures read { IfSome result (λ p. tree_in file.now.reading ≡ Some p.0.now) }
     ensures bytes { IfSome result (λ p. file.now.bytes ≡ Some p.1.now) }
 {

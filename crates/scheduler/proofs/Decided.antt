@@ -12,7 +12,7 @@ use Rattle.kept_files.specs.declared.reading.Reading.{Reading}
 use Rattle.kept_files.specs.declared.reading.Reading.TheVariants as reading
 use Rattle.rw_host.specs.declared.file.FileEdit.{FileEdit}
 use Rattle.rw_host.specs.declared.file.FileEdit.TheVariants as edit
-use Rattle.kept_files.specs.FileEdits.{FitTree, FitsFile}
+use Rattle.kept_files.specs.FileEdits.{FitTree, FitsFile, edited, text_by}
 use Rattle.kept_files.specs.Readings.{Reads, IsReading, EndsWith}
 use Rattle.kept_files.specs.States.{State, IsKept, EndsAt, file_at, tree_in}
 use Rattle.kept_files.specs.declared.file.KeptFile.{KeptFile}
@@ -23,7 +23,7 @@ use Rattle.scheduler.specs.declared.fate.Fate.{Fate}
 use Rattle.scheduler.specs.declared.fate.Fate.TheVariants.{Stays, Goes, Lost, Taken, Becomes}
 use Rattle.scheduler.specs.Edits.{edits}
 use Rattle.scheduler.specs.Holds.{holds, holds_by, met_from, gives, is_edit}
-use Rattle.scheduler.specs.Fates.{edited, text_by, accepted, read_anew, fate, fate_at}
+use Rattle.scheduler.specs.Fates.{accepted, read_anew, fate, fate_at}
 use Rattle.scheduler.specs.Steps.{IsFateKept}
 
 pub cut : {A : Type 0} (xs : List A) (i : ℕ) (d : A) → i < length xs → drop i xs ≡ get_or xs i d ∷ drop (i + 1) xs
@@ -155,4 +155,32 @@ module _ (read : Reads) (plan : Plan) (l : PlannedLeaf) (value : List (List ℕ)
 
 pub ruleset at_by = (runs, rests)
 
-pub ruleset edited_is = (edited_by, tree_ends, tree_fits)
+-- the tree by the kind of a reading
+module _ (f : KeptFile) (t : Arena) where
+  pub java_tree : f.reading ≡ reading.Java t → Some t ≡ tree_in f.reading
+  java_tree e = sym (ap tree_in e)
+
+  pub yaml_tree : f.reading ≡ reading.Yaml t → Some t ≡ tree_in f.reading
+  yaml_tree e = sym (ap tree_in e)
+
+  pub properties_tree : (u : Arena) → f.reading ≡ reading.Properties u → t ≡ u → Some t ≡ tree_in f.reading
+  properties_tree u e is = ap Some is ∙ sym (ap tree_in e)
+
+no_text : (o : Option Arena) (es : List Edit) → [] ≡ text_by o None es
+no_text None es = refl
+no_text (Some t) es = refl
+
+pub without_bytes : (f : KeptFile) (es : List Edit) → f.bytes ≡ None → [] ≡ edited f es
+unfolding edited
+without_bytes f es e = no_text (tree_in f.reading) es ∙ sym (ap (λ b. text_by (tree_in f.reading) b es) e)
+
+pub unread_text : (f : KeptFile) (es : List Edit) → f.reading ≡ reading.Unread → [] ≡ edited f es
+unfolding edited
+unread_text f es e = sym (ap (λ r. text_by (tree_in r) f.bytes es) e)
+
+pub refused_text : (f : KeptFile) (x : Refused) (es : List Edit) → f.reading ≡ reading.Refused x → [] ≡ edited f es
+unfolding edited
+refused_text f x es e = sym (ap (λ r. text_by (tree_in r) f.bytes es) e)
+
+pub ruleset edited_is = (edited_by, tree_ends, tree_fits, java_tree, yaml_tree, properties_tree, without_bytes,
+    unread_text, refused_text)

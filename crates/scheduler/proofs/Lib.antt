@@ -1,4 +1,5 @@
 pub mod Decided
+pub mod Renamed
 pub mod ByRecipe
 pub mod Settling
 pub mod After

@@ -2,15 +2,13 @@
 use Rattle.std.specs.Prelude.{ℕ, ◌+◌, ◌||◌, Bool, List, [], ◌∷◌, ◌++◌, Option, Some, None, unwrap_or, if◌then◌else◌}
 use Rattle.std.specs.List.{list_any}
 use Rattle.std.specs.Str.{bytes_eq}
-use Rattle.rw_base.specs.Arena.{Arena}
-use Rattle.rw_base.specs.NewText.{new_text}
-use Rattle.rw_base.specs.declared.edit.Edit.{Edit}
 use Rattle.kept_files.specs.declared.reading.Reading.{Reading}
 use Rattle.kept_files.specs.declared.reading.Reading.TheVariants as reading
 use Rattle.rw_host.specs.declared.file.FileEdit.{FileEdit}
 use Rattle.rw_host.specs.declared.file.FileEdit.TheVariants as edit
 use Rattle.kept_files.specs.Readings.{Reads}
-use Rattle.kept_files.specs.States.{State, file_at, has_path, tree_in}
+use Rattle.kept_files.specs.FileEdits.{edited}
+use Rattle.kept_files.specs.States.{State, file_at, has_path}
 use Rattle.kept_files.specs.declared.file.KeptFile.{KeptFile}
 use Rattle.recipe_yaml.specs.declared.plans.Plan.{Plan}
 use Rattle.recipe_yaml.specs.declared.plans.PlannedLeaf.{PlannedLeaf}
@@ -20,14 +18,6 @@ use Rattle.scheduler.specs.Edits.{edits}
 use Rattle.scheduler.specs.Holds.{holds}
 
 -- ---- one file
-
--- the new bytes of a file with these edits of its tree
-abbrev pub text_by : Option Arena → Option (List ℕ) → List Edit → List ℕ
-text_by (Some t) (Some bytes) es = new_text t bytes es
-text_by _ _ es = []
-
-unfoldable pub edited : KeptFile → List Edit → List ℕ
-edited f es = text_by (tree_in f.reading) f.bytes es
 
 -- a file of these bytes, where its reader doesn't refuse them
 abbrev pub accepted : List ℕ → List ℕ → Reading → Fate

@@ -2,19 +2,22 @@
 ghost use Rattle.std.specs.Prelude.{◌≡◌, ◌<◌, [], false, not, length, slice_index_or, IfOk, Some, unwrap_or};
 ghost use Rattle.std.specs.List.{list_all, list_any};
 ghost use Rattle.std.specs.Option.{option_copied};
-ghost use Rattle.kept_files.specs.FileEdits.{FitTree, FitsFile};
+ghost use Rattle.kept_files.specs.FileEdits.{FitTree, FitsFile, edited};
 ghost use Rattle.kept_files.specs.Readings.{AreReadings, EndsWith, IsReading, Reads};
 ghost use Rattle.kept_files.specs.States.{IsKept, file_at, tree_in};
+ghost use Rattle.conf_recipes.specs.PropertiesRecipes.{properties_key_changed};
 ghost use Rattle.scheduler.specs.Edits.{edits};
-ghost use Rattle.scheduler.specs.Fates.{edited, fate, fate_at, read_anew};
+ghost use Rattle.scheduler.specs.Fates.{fate, fate_at, read_anew};
 ghost use Rattle.scheduler.specs.Holds.{gives, holds, is_edit, met_from};
 ghost use Rattle.scheduler.specs.Steps.{IsFateKept};
 
 use crate::dispatch::edits_of;
 use crate::fate::Fate;
+use conf_recipes::renamed_in_file;
 use j_repair::Attributed;
 use kept_files::{KeptFile, KeptFiles, Reading, ScanValue};
-use recipe_yaml::{Condition, Plan, PlannedLeaf};
+use properties_tree::PropertiesChangePropertyKey;
+use recipe_yaml::{Condition, LeafRecipe, Plan, PlannedLeaf};
 use rw_base::{Edit, Mem, Shared, Text, Tree, rearranged};
 use rw_host::{FileEdit, PathText, Steps};
 use sqlite_items::Items;
@@ -140,7 +143,8 @@ fn edited(alloc: Global, file: &KeptFile, edits: &[Edit]) -> Mem<Vec<u8>>
             let tree = tree.made(alloc)?;
             rearranged(alloc, &tree, bytes.get().as_slice(), edits)
         }
-        _ => Ok(Vec::new(alloc)),
+        Reading::Unread => Ok(Vec::new(alloc)),
+        Reading::Refused(_) => Ok(Vec::new(alloc)),
     }
 }
 
@@ -163,9 +167,9 @@ fn accepted(alloc: Global, path: PathText, bytes: Shared<Text>, reading: Reading
     Ok(Fate::Becomes(Shared::new(alloc, file)?))
 }
 
-// What becomes of a file with this path and these new bytes.
+/// What becomes of a file with this path and these new bytes.
 #[tactic(auto, using(crate::proofs::Decided::anew_by))]
-fn read_anew<L: Ledger>(
+pub(crate) fn read_anew<L: Ledger>(
     alloc: Global,
     kept: &Attributed,
     path: PathText,
@@ -218,8 +222,30 @@ fn fate<L: Ledger>(
     }
 }
 
+// What a renaming of keys makes of a file, without edits and a tree.
+#[tactic(auto, using(crate::proofs::Renamed::renamed_by))]
+fn fate_by_renaming<L: Ledger>(
+    alloc: Global,
+    kept: &Attributed,
+    file: &KeptFile,
+    options: &PropertiesChangePropertyKey,
+    steps: &mut Steps<L>,
+) -> Mem<Fate>
+    requires kept { IsKept file.now }
+    ensures is { (read : Reads) → AreReadings read
+        → IfOk result (λ d. d ≡ fate read file.now (properties_key_changed options.now file.now)) }
+    ensures kept { IfOk result IsFateKept }
+{
+    let Some(bytes) = renamed_in_file(alloc, file, options)? else {
+        return Ok(Fate::Stays);
+    };
+    let path = file.path.copy(alloc)?;
+    let fate = read_anew(alloc, kept, path, bytes, steps)?;
+    Ok(fate)
+}
+
 /// What becomes of the file of a number at the edit step of a leaf, before it is known whether its new path is free.
-#[tactic(auto, using(crate::proofs::Decided::at_by))]
+#[tactic(auto, using(crate::proofs::Decided::at_by, crate::proofs::Renamed::at_renamed))]
 pub(crate) fn fate_at<L: Ledger>(
     alloc: Global,
     kept: &Attributed,
@@ -237,7 +263,12 @@ pub(crate) fn fate_at<L: Ledger>(
     if !holds(alloc, plan, leaf, kept, file)? {
         return Ok(Fate::Stays);
     }
+    let own = kept.file(file as usize);
+    if let LeafRecipe::PropertiesChangePropertyKey(options) = &leaf.recipe {
+        let fate = fate_by_renaming(alloc, kept, own, options, steps)?;
+        return Ok(fate);
+    }
     let edit = edits_of(alloc, &leaf.recipe, kept, file, value)?;
-    let fate = fate(alloc, kept, kept.file(file as usize), edit, steps)?;
+    let fate = fate(alloc, kept, own, edit, steps)?;
     Ok(fate)
 }
