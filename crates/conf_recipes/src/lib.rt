@@ -1,31 +1,23 @@
-//! The recipes of configuration files: which edits each makes in one file.
-//!
-//! `edits_in_properties` gives the edits of `org.openrewrite.properties.ChangePropertyKey` over a file's tree, for a
-//! plan of several recipes. `renamed_in_properties` gives the new text at once, from the bytes alone, for a plan of
-//! this recipe alone.
+//! The recipes of configuration files, of paths and of new files: what each does to one file of a repository.
 //!
 //! ```text
-//! let edits = edits_in_properties(alloc, &tree, bytes, &options)?;
-//! let text = rearranged(alloc, &tree, bytes, &edits)?;
-//!
-//! let same_text = renamed_in_properties(alloc, bytes, &options)?;
+//! let edit = edits_of_change_key(alloc, &kept, file, &options)?;      // keep, remove, found, or edits of the tree
+//! let edit = edits_of_properties_change_property_key(alloc, &kept, file, &options)?;
+//! let text = renamed_in_file(alloc, kept.file(file), &options)?;      // the new bytes of the same at once
+//! let files = text_files(alloc, &options)?;                           // the files that CreateTextFile makes
 //! ```
 //!
-//! The promise. The edits are those of the definition (clause `edits` of `edits_in_properties`), and they fit the tree
-//! (`leaves`, `fit`). Both ways give one text (`renamed_in_properties`), and that text is the file with the keys that
-//! say the old key written as the new one is spelled, and every other byte as it was (the law `edits_write_keys`).
+//! The promise. What becomes of a file is what the recipe's definition says (clause `edits` of each `edits_of_..`), and
+//! its edits are edits of the file's tree (`fit`). The recipes on properties files make a tree only of a file that has
+//! the key; a renaming of keys, in the step of a run, makes none: `renamed_in_file` gives the bytes that the edits give
+//! (`text_after`), and `renamed_in_properties` does so from bytes alone (`text`, `edits`). That text is the file with
+//! the keys that say the old key written as the new one is spelled, and every other byte as it was (the law
+//! `edits_write_keys`). Two laws speak of new text of properties files: `deletes_leave_the_rest` and
+//! `added_entries_stand_at_the_end`.
 //!
-//! The recipes on YAML files look at one file of a repository and say what becomes of it, each with two clauses: the
-//! edits are those of the definition (`edits`), and they are edits of the file's tree (`fit`):
-//!
-//! ```text
-//! let edit = edits_of_change_key(alloc, &kept, file, &options)?;      // `key_changed`; also `value_changed`,
-//! ```                                                                 // `yaml_property_key_changed`, `key_deleted`
-//!
-//! Their definitions are in `YamlRecipes`, over those of `YamlLeaves` (keys and values), `YamlJoinedKeys` (keys joined
-//! by dots) and `YamlDeletions` (what stays of a mapping).
-//!
-//! What must be believed is `PropertiesEdits` in specs/, behind properties_tree's `Keys` and rw_base's `NewText`.
+//! The definitions in specs/, in this order: `PropertiesEdits` and `PropertiesRecipes`, behind properties_tree's
+//! `Entries` and `Keys`; `YamlRecipes` over `YamlLeaves` (keys and values), `YamlJoinedKeys` (keys joined by dots) and
+//! `YamlDeletions` (what stays of a mapping); `PathPatterns` and, over it, `FileRecipes`; `RecipeLaws`.
 #![tactic(auto)]
 
 mod adding;
