@@ -1,10 +1,9 @@
 -- Whether an entry has a key is told by where the next entry with the key stands; a file in which none has it stays.
-use Rattle.std.proofs.Common.{◌≡◌, ℕ, suc, ◌+◌, ◌≤◌, ◌<◌, Bool, true, false, ◌||◌, List, [], ◌∷◌, ◌++◌, length}
+use Rattle.std.proofs.Common.{◌≡◌, ℕ, suc, ◌+◌, ◌≤◌, Bool, true, false, ◌||◌, List, [], ◌∷◌, ◌++◌, length}
 use Rattle.std.proofs.Common.{replicate, refl, sym, ap, ◌∙◌, arith, Option, Some, None}
 use Rattle.std.proofs.lemmas.List.{length-append, length-replicate}
 use Rattle.std.specs.Prelude.{is_some, slice_range, drop}
 use Rattle.std.specs.Str.{bytes_eq}
-use Rattle.rw_base.specs.declared.edit.Edit.{Edit}
 use Rattle.properties_tree.specs.declared.keys.KeyPlace.{KeyPlace}
 use Rattle.properties_tree.specs.declared.option.AddProperty.{AddProperty}
 use Rattle.properties_tree.specs.declared.option.ChangePropertyValue.{ChangePropertyValue}
@@ -24,30 +23,39 @@ rest_not false b h = h
 
 -- ---- a key that is written anew and long makes the file long
 
-behind_key : Entry → List ℕ
+abbrev behind_key : Entry → List ℕ
 behind_key e = bytes_of e.separator ++ (bytes_of e.value ++ e.ending)
 
 long_here : (key written : List ℕ) (e : Entry) → bytes_eq (key_text e) key ≡ true
     → length written ≤ length (entry_with key written e)
 long_here key written e h =
     let same : key_or key written e ≡ written = rw h refl in
-    omega (arith, length-append e.prefix (key_or key written e ++ behind_key e),
-    length-append (key_or key written e) (behind_key e), ap length same)
+    let first : length (entry_with key written e) ≡ length e.prefix + length (key_or key written e ++ behind_key e) =
+    length-append e.prefix (key_or key written e ++ behind_key e) in
+    let second : length (key_or key written e ++ behind_key e) ≡ length (key_or key written e) + length (behind_key e) =
+    length-append (key_or key written e) (behind_key e) in
+    let third : length (key_or key written e) ≡ length written = ap length same in
+    omega (arith, first, second, third)
+
+longer : (key written : List ℕ) (e : Entry) (behind : List ℕ) (b c : Bool) → bytes_eq (key_text e) key ≡ b
+    → (c ≡ true → length written ≤ length behind) → (b || c) ≡ true
+    → length written ≤ length (entry_with key written e ++ behind)
+longer key written e behind true c is later h =
+    let both : length (entry_with key written e ++ behind) ≡ length (entry_with key written e) + length behind =
+    length-append (entry_with key written e) behind in
+    omega (arith, both, long_here key written e is)
+longer key written e behind false c is later h =
+    let both : length (entry_with key written e ++ behind) ≡ length (entry_with key written e) + length behind =
+    length-append (entry_with key written e) behind in
+    omega (arith, both, later h)
 
 long_with : (key written : List ℕ) (es : List Entry) (rest : List ℕ) → has_entry key es ≡ true
     → length written ≤ length (entries_with key written es rest)
 unfolding has_entry
 long_with key written [] rest h = absurd (let bad : false ≡ true = h in cc)
-long_with key written (e ∷ es) rest h = by (bytes_eq (key_text e) key) refl h
-  where
-    by : (b : Bool) → bytes_eq (key_text e) key ≡ b → (b || has_entry key es) ≡ true
-        → length written ≤ length (entries_with key written (e ∷ es) rest)
-    by true is i =
-        omega (arith, length-append (entry_with key written e) (entries_with key written es rest),
-        long_here key written e is)
-    by false is i =
-        omega (arith, length-append (entry_with key written e) (entries_with key written es rest),
-        long_with key written es rest i)
+long_with key written (e ∷ es) rest h =
+    longer key written e (entries_with key written es rest) (bytes_eq (key_text e) key) (has_entry key es) refl
+    (long_with key written es rest) h
 
 -- where no entry has the key, nothing of how it is written is seen
 same_here : (key one other : List ℕ) (e : Entry) → bytes_eq (key_text e) key ≡ false
@@ -69,45 +77,51 @@ same_with key one other (e ∷ es) rest h =
 
 -- ---- the next entry with a key tells whether there is one
 
-entries_in : List ℕ → List Entry
+abbrev pub entries_in : List ℕ → List Entry
 entries_in bytes = (properties_of bytes).entries
 
 -- a text of so many bytes
-zeros : ℕ → List ℕ
+abbrev zeros : ℕ → List ℕ
 zeros n = replicate n 0
 
 zeros_size : (n : ℕ) → length (zeros n) ≡ n
 zeros_size n = length-replicate n 0
 
-pub none_told : (key bytes : List ℕ) → IsNextKey key bytes 0 None → has_entry key (entries_in bytes) ≡ false
+none_long : (key bytes : List ℕ) (b : Bool) → has_entry key (entries_in bytes) ≡ b → IsNextKey key bytes 0 None
+    → b ≡ false
 unfolding with_key
-none_told key bytes next = by (has_entry key (entries_in bytes)) refl
-  where
-    long : List ℕ
-    long = zeros (suc (length bytes))
-    by : (b : Bool) → has_entry key (entries_in bytes) ≡ b → b ≡ false
-    by false h = refl
-    by true h =
-        absurd (omega (arith, zeros_size (suc (length bytes)), ap length (next long),
-        long_with key long (entries_in bytes) (properties_of bytes).rest h))
+none_long key bytes false h next = refl
+none_long key bytes true h next =
+    let long : List ℕ = zeros (suc (length bytes)) in
+    let size : length long ≡ suc (length bytes) = zeros_size (suc (length bytes)) in
+    let same : length (entries_with key long (entries_in bytes) (properties_of bytes).rest) ≡ length bytes =
+    ap length (next long) in
+    absurd (omega (arith, size, same, long_with key long (entries_in bytes) (properties_of bytes).rest h))
+
+pub none_told : (key bytes : List ℕ) → IsNextKey key bytes 0 None → has_entry key (entries_in bytes) ≡ false
+none_told key bytes next = none_long key bytes (has_entry key (entries_in bytes)) refl next
+
+some_long : (key bytes : List ℕ) (p : KeyPlace) (b : Bool) → has_entry key (entries_in bytes) ≡ b
+    → IsKeyPlace key bytes 0 p → b ≡ true
+unfolding with_key
+some_long key bytes p true h place = refl
+some_long key bytes p false h place =
+    let size : ℕ = length (entries_with key [] (entries_in bytes) (properties_of bytes).rest) in
+    let long : List ℕ = zeros (suc size) in
+    let after : List ℕ = slice_range bytes p.to p.next ++ with_key key long (drop p.next bytes) in
+    let all : length (entries_with key long (entries_in bytes) (properties_of bytes).rest)
+        ≡ length (slice_range bytes 0 p.from ++ (long ++ after)) = ap length (place.new long) in
+    let one : length (slice_range bytes 0 p.from ++ (long ++ after))
+        ≡ length (slice_range bytes 0 p.from) + length (long ++ after) =
+    length-append (slice_range bytes 0 p.from) (long ++ after) in
+    let two : length (long ++ after) ≡ length long + length after = length-append long after in
+    let same : size ≡ length (entries_with key long (entries_in bytes) (properties_of bytes).rest) =
+    ap length (same_with key [] long (entries_in bytes) (properties_of bytes).rest h) in
+    absurd (omega (arith, zeros_size (suc size), all, one, two, same))
 
 pub some_told : (key bytes : List ℕ) (p : KeyPlace) → IsNextKey key bytes 0 (Some p)
     → has_entry key (entries_in bytes) ≡ true
-unfolding with_key
-some_told key bytes p place = by (has_entry key (entries_in bytes)) refl
-  where
-    size : ℕ
-    size = length (with_key key [] bytes)
-    long : List ℕ
-    long = zeros (suc size)
-    after : List ℕ
-    after = slice_range bytes p.to p.next ++ with_key key long (drop p.next bytes)
-    by : (b : Bool) → has_entry key (entries_in bytes) ≡ b → b ≡ true
-    by true h = refl
-    by false h =
-        absurd (omega (arith, zeros_size (suc size), ap length (place.new long),
-        length-append (slice_range bytes 0 p.from) (long ++ after), length-append long after,
-        ap length (same_with key [] long (entries_in bytes) (properties_of bytes).rest h)))
+some_told key bytes p place = some_long key bytes p (has_entry key (entries_in bytes)) refl place
 
 pub entry_told : (key bytes : List ℕ) (found : Option KeyPlace) → IsNextKey key bytes 0 found
     → is_some found ≡ has_entry key (properties_of bytes).entries

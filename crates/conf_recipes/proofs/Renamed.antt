@@ -1,6 +1,6 @@
 -- The new bytes of a file by a renaming of keys, which are made without edits.
 use Rattle.std.proofs.Common.{◌≡◌, ℕ, ◌+◌, Bool, true, false, ◌||◌, List, [], ◌∷◌, Option, Some, None, refl, sym, ap, ◌∙◌}
-use Rattle.std.specs.Prelude.{is_some}
+use Rattle.std.specs.Prelude.{is_some, if◌then◌else◌}
 use Rattle.std.specs.Str.{bytes_eq}
 use Rattle.rw_base.specs.Arena.{Arena}
 use Rattle.rw_base.specs.NewText.{new_text}
@@ -8,27 +8,31 @@ use Rattle.rw_base.specs.declared.edit.Edit.{Edit}
 use Rattle.properties_tree.specs.declared.option.PropertiesChangePropertyKey.{PropertiesChangePropertyKey}
 use Rattle.properties_tree.specs.Decoding.{key_text}
 use Rattle.properties_tree.specs.Entries.{Entry, properties_of}
-use Rattle.properties_tree.specs.Layout.{tree_of}
+use Rattle.properties_tree.specs.Layout.{key_leaf_of, tree_of}
 use Rattle.kept_files.specs.FileEdits.{edited, text_after, text_by, with_edits}
 use Rattle.kept_files.specs.States.{properties_in, tree_in}
 use Rattle.kept_files.specs.declared.file.KeptFile.{KeptFile}
-use Rattle.conf_recipes.specs.PropertiesEdits.{IsRenamed, edits_of, key_edits}
+use Rattle.conf_recipes.specs.PropertiesEdits.{IsRenamed, edits_of, key_edit, key_edits}
 use Rattle.conf_recipes.specs.PropertiesRecipes.{edited_by, has_entry, properties_key_changed}
 use Rattle.conf_recipes.proofs.Lacking.{no_key_edits}
 
 -- ---- an entry with the key gets an edit
 
+no_first : {A : Type 0} (x : A) (xs : List A) → x ∷ xs ≡ [] → ⊥
+no_first x xs e = cc
+
+by_first : (b c : Bool) (x : Edit) (more : List Edit) → (c ≡ true → more ≡ [] → ⊥) → (b || c) ≡ true
+    → (if b then x ∷ more else more) ≡ [] → ⊥
+by_first true c x more later h e = no_first x more e
+by_first false c x more later h e = later h e
+
 some_key_edits : (old new : List ℕ) (n : ℕ) (es : List Entry) → has_entry old es ≡ true
     → key_edits old new n es ≡ [] → ⊥
 unfolding has_entry key_edits
 some_key_edits old new n [] h e = absurd (let bad : false ≡ true = h in cc)
-some_key_edits old new n (x ∷ es) h e = by (bytes_eq (key_text x) old) refl h
-  where
-    by : (b : Bool) → bytes_eq (key_text x) old ≡ b → (b || has_entry old es) ≡ true → ⊥
-    by true is i = let same : key_edits old new n (x ∷ es) ≡ [] = e in absurd (cc)
-    by false is i =
-        let same : key_edits old new n (x ∷ es) ≡ key_edits old new (n + 1) es = rw is refl in
-        some_key_edits old new (n + 1) es i (sym same ∙ e)
+some_key_edits old new n (x ∷ es) h e =
+    by_first (bytes_eq (key_text x) old) (has_entry old es) (key_edit (key_leaf_of n) new)
+    (key_edits old new (n + 1) es) (some_key_edits old new (n + 1) es) h e
 
 -- ---- the new bytes
 

@@ -1,20 +1,20 @@
 -- The book of a file by what it reads as.
-use Rattle.std.proofs.Common.{◌≡◌, ◌≢◌, ℕ, ◌≤◌, List, [], length, Option, Some, Result, Ok, Err, refl, sym, ap, subst, ◌∙◌}
+use Rattle.std.proofs.Common.{◌≡◌, ℕ, ◌≤◌, List, [], length, Some, Result, Ok, Err, refl, sym, ap, subst, ◌∙◌}
 use Rattle.std.specs.Prelude.{codes}
 use Rattle.rw_base.specs.declared.leaves.TheConstants.{MOST_BYTES}
 use Rattle.kept_files.specs.declared.reading.Reading.{Reading}
 use Rattle.kept_files.specs.declared.reading.Reading.TheVariants as reading
 use Rattle.rw_base.specs.declared.place.Refused.{Refused}
-use Rattle.rw_base.specs.Arena.{Arena, end_of}
+use Rattle.rw_base.specs.Arena.{Arena}
 use Rattle.rw_grammar.specs.Reading.{is-too-large, is-cut}
 use Rattle.yaml_tree.specs.Reading.{IsYamlOutcome}
 use Rattle.kept_files.specs.declared.kind.FileKind.{FileKind}
 use Rattle.kept_files.specs.declared.kind.FileKind.TheVariants.{Java, Yaml, Properties, Other}
 use Rattle.kept_files.specs.Kinds.{kind_of}
-use Rattle.kept_files.specs.Readings.{IsReading, IsReadAs, Reads, AreReadings, java_reading, yaml_reading, properties_reading}
+use Rattle.kept_files.specs.Readings.{IsReading, IsReadAs, Reads, java_reading, yaml_reading}
 use Rattle.recipe_yaml.specs.declared.book.RecipeBook.{RecipeBook}
 use Rattle.recipe_yaml.specs.declared.fault.RecipeFault.{RecipeFault}
-use Rattle.recipe_yaml.specs.declared.fault.RecipeFault.TheVariants.{Wrong, NoMemory}
+use Rattle.recipe_yaml.specs.declared.fault.RecipeFault.TheVariants.{Wrong}
 use Rattle.recipe_yaml.specs.Checked.{Gives}
 use Rattle.recipe_yaml.specs.Books.{book_of, book_in, recipes_in}
 

@@ -1,5 +1,5 @@
 -- Nodes of YAML as recipe files use them, over trees as plain data.
-use Rattle.std.specs.Prelude.{ℕ, ◌-◌, ◌==◌, ◌&&◌, ◌||◌, Bool, List, [], ◌∷◌, Option, Some, None, if◌then◌else◌}
+use Rattle.std.specs.Prelude.{ℕ, ◌-◌, ◌==◌, ◌||◌, Bool, List, [], ◌∷◌, Option, Some, None, if◌then◌else◌}
 use Rattle.rw_base.specs.declared.tree.NodeId.{NodeId}
 use Rattle.rw_base.specs.Trees.{Numbered, none, leaf, node}
 use Rattle.rw_base.specs.Arena.{Arena, kind_of, first_of, past_of}

@@ -1,6 +1,6 @@
 -- The entries of the lists of a recipe document, and their options. Each word says what comes of a part of a document:
 -- what it is, or the first leaf in it that can't stand there.
-use Rattle.std.specs.Prelude.{ℕ, Bool, true, false, List, [], ◌∷◌, Option, Some, None, Ok, Err, if◌then◌else◌}
+use Rattle.std.specs.Prelude.{ℕ, Bool, true, false, List, [], ◌∷◌, Some, None, Ok, Err, if◌then◌else◌}
 use Rattle.std.specs.List.{list_any}
 use Rattle.std.specs.Str.{bytes_eq}
 use Rattle.rw_base.specs.declared.place.Place.{Place}

@@ -611,6 +611,14 @@ fn book_of(alloc: Global, bytes: &[u8], reading: &Reading) -> Result<RecipeBook,
     }
 }
 
+// The bytes of a file once more.
+fn copied(alloc: Global, bytes: &[u8]) -> Mem<Shared<Text>>
+    ensures { IfOk result (λ text. text ≡ bytes.now) }
+{
+    let text = Text::from_slice(alloc, bytes)?;
+    Shared::new(alloc, text)
+}
+
 /// The recipes of a recipe file, or its first fault: 1 where it is no YAML that is accepted, 2 at a leaf of a recipe's
 /// document that can't stand, 3 at a name that an earlier document or this project defines. It takes no steps.
 pub fn read_recipes<L: Ledger>(
@@ -623,7 +631,7 @@ pub fn read_recipes<L: Ledger>(
     ensures fault { (read : Reads) → AreReadings read → IfErr result (λ fault.
         fault ≢ RecipeFault.NoMemory → recipes_in read bytes.now ≡ Err fault) }
 {
-    let text = Shared::new(alloc, Text::from_slice(alloc, bytes)?)?;
+    let text = copied(alloc, bytes)?;
     let reading = readers.read_file(alloc, "recipes.yml", &text, steps)?;
     let book = book_of(alloc, bytes, &reading)?;
     Ok(book)

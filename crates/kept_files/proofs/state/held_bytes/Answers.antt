@@ -1,4 +1,4 @@
-use Rattle.std.proofs.Common.{◌+◌, ◌-◌, ◌^◌, min, arith}
+use Rattle.std.proofs.Common.{◌-◌, ◌^◌, min, arith}
 use Rattle.kept_files.specs.States.{held_bytes}
 use Rattle.kept_files.proofs.StateLaws.{held_end}
 use Rattle.kept_files.proofs.state.held_bytes.Goals as goal

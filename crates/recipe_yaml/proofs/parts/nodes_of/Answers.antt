@@ -1,8 +1,8 @@
-use Rattle.std.proofs.Common.{◌≡◌, ◌<◌, ◌++◌, ◌∷◌, [], length, subst, sym, ap, ◌∙◌, arith}
+use Rattle.std.proofs.Common.{◌<◌, length, subst, sym, arith}
 use Rattle.std.proofs.lemmas.List.Elements.{All-push}
 use Rattle.rw_base.specs.declared.tree.NodeId.{NodeId}
 use Rattle.rw_base.specs.PartLaws.{below_next, node_below}
-use Rattle.recipe_yaml.specs.Nodes.{nodes_in, nodes_of}
+use Rattle.recipe_yaml.specs.Nodes.{nodes_of}
 use Rattle.recipe_yaml.specs.Parts.{IsNode, AreNodes}
 use Rattle.recipe_yaml.proofs.NodeParts.{nodes_end, nodes_leaf, nodes_node}
 use Rattle.recipe_yaml.proofs.parts.nodes_of.Goals as goal

@@ -1,5 +1,4 @@
-use Rattle.std.proofs.Common.{◌≡◌, [], length, get_or, rules}
-use Rattle.std.proofs.lemmas.Result.{err_from_is_err_and}
+use Rattle.std.proofs.Common.{[], rules}
 use Rattle.recipe_yaml.specs.Checked.{each}
 use Rattle.recipe_yaml.specs.Nodes.{nodes_of}
 use Rattle.recipe_yaml.specs.Books.{with_document}

@@ -1,4 +1,4 @@
-use Rattle.std.proofs.Common.{◌≡◌, length, get_or, rules}
+use Rattle.std.proofs.Common.{rules}
 use Rattle.recipe_yaml.specs.Checked.{each}
 use Rattle.recipe_yaml.specs.Books.{no_root, with_node}
 use Rattle.recipe_yaml.proofs.Binds.{each_more, each_fault, each_end}
