@@ -52,8 +52,6 @@ pub no_key_changed : (o : PropertiesChangePropertyKey) (f : KeptFile) → proper
 unfolding properties_key_changed
 no_key_changed o f e = none_by (λ b. edits_of b o) (properties_in f) e
 
-
-
 pub no_key_to_change : (o : PropertiesChangePropertyKey) (f : KeptFile) (t : Arena) (bytes : List ℕ)
     → properties_in f ≡ Some (t, bytes) → has_entry o.old_property_key (properties_of bytes).entries ≡ false
     → edit.Keep ≡ properties_key_changed o f

@@ -110,9 +110,9 @@ some_long key bytes p false h place =
     let long : List ℕ = zeros (suc size) in
     let after : List ℕ = slice_range bytes p.to p.next ++ with_key key long (drop p.next bytes) in
     let all : length (entries_with key long (entries_in bytes) (properties_of bytes).rest)
-        ≡ length (slice_range bytes 0 p.from ++ (long ++ after)) = ap length (place.new long) in
+    ≡ length (slice_range bytes 0 p.from ++ (long ++ after)) = ap length (place.new long) in
     let one : length (slice_range bytes 0 p.from ++ (long ++ after))
-        ≡ length (slice_range bytes 0 p.from) + length (long ++ after) =
+    ≡ length (slice_range bytes 0 p.from) + length (long ++ after) =
     length-append (slice_range bytes 0 p.from) (long ++ after) in
     let two : length (long ++ after) ≡ length long + length after = length-append long after in
     let same : size ≡ length (entries_with key long (entries_in bytes) (properties_of bytes).rest) =

@@ -108,11 +108,7 @@ fn is_taken(before: &[Written], name: &[u8]) -> bool
 }
 
 // The name of a recipe, which isn't taken.
-#[tactic(
-    auto,
-    using(crate::proofs::Binds::binds),
-    unfolding(crate::specs::Books::name_at, crate::specs::Books::free_name)
-)]
+#[tactic(auto, using(crate::proofs::Binds::binds), unfolding(crate::specs::Books::name_at, crate::specs::Books::free_name))]
 fn name_at(
     alloc: Global,
     tree: &Tree,

@@ -123,14 +123,7 @@ pub fn changes_between(
 
 // ---- what is written
 
-#[tactic(
-    auto,
-    unfolding(
-        journal_text::specs::Changes::gate,
-        journal_text::specs::Changes::journal,
-        crate::specs::Histories::history_path
-    )
-)]
+#[tactic(auto, unfolding(journal_text::specs::Changes::gate, journal_text::specs::Changes::journal, crate::specs::Histories::history_path))]
 fn is_kept_out(path: &str) -> bool
     ensures { result ≡ is_kept_out path.now }
 {

@@ -87,14 +87,7 @@ fn note_refusal(findings: &mut Findings, path: &str, refusal: Option<Refused>) -
 }
 
 // Reads the file at a path, where it is one that is read, and notes whether it is refused.
-#[tactic(
-    auto,
-    using(
-        crate::proofs::FoundInFile::found_there,
-        crate::proofs::SourceSteps::read_stops,
-        crate::proofs::Idling::idling
-    )
-)]
+#[tactic(auto, using(crate::proofs::FoundInFile::found_there, crate::proofs::SourceSteps::read_stops, crate::proofs::Idling::idling))]
 fn check_file<S: Store, L: Ledger>(
     alloc: Global,
     store: &mut S,
@@ -188,15 +181,7 @@ fn check_files<S: Store, L: Ledger>(
 }
 
 // Reads the files of a store that has these paths, few enough, and tells which of them are refused.
-#[tactic(
-    auto,
-    using(
-        crate::proofs::Answering::answered,
-        crate::proofs::SourceSteps::all_found,
-        crate::proofs::SourceSteps::read_stops,
-        crate::proofs::Idling::idling
-    )
-)]
+#[tactic(auto, using(crate::proofs::Answering::answered, crate::proofs::SourceSteps::all_found, crate::proofs::SourceSteps::read_stops, crate::proofs::Idling::idling))]
 fn check_listed<S: Store>(
     alloc: Global,
     store: &mut S,

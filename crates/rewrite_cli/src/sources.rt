@@ -73,14 +73,7 @@ fn push_unread(found: &mut Found, path: PathText) -> Mem<()>
 }
 
 // Reads the file at a path, where it is a source file that is read, and puts it behind the others.
-#[tactic(
-    auto,
-    using(
-        crate::proofs::SourceSteps::found_at,
-        crate::proofs::FoundInFile::found_there,
-        crate::proofs::Idling::idling
-    )
-)]
+#[tactic(auto, using(crate::proofs::SourceSteps::found_at, crate::proofs::FoundInFile::found_there, crate::proofs::Idling::idling))]
 fn find_file<S: Store>(
     alloc: Global,
     store: &mut S,

@@ -182,5 +182,14 @@ pub refused_text : (f : KeptFile) (x : Refused) (es : List Edit) → f.reading �
 unfolding edited
 refused_text f x es e = sym (ap (λ r. text_by (tree_in r) f.bytes es) e)
 
-pub ruleset edited_is = (edited_by, tree_ends, tree_fits, java_tree, yaml_tree, properties_tree, without_bytes,
-    unread_text, refused_text)
+pub ruleset edited_is = (
+  edited_by,
+  tree_ends,
+  tree_fits,
+  java_tree,
+  yaml_tree,
+  properties_tree,
+  without_bytes,
+  unread_text,
+  refused_text,
+)
