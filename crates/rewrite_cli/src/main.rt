@@ -14,16 +14,16 @@
 //! status, the text and the files that are left. Where no fault comes in between, the status is that of the answer
 //! (`rewrite`, clause `status`), the files are those that it leaves (`files`), and its text was put (`text`, `line`). 2
 //! comes exactly where the words are others (`usage`), and then the store isn't used (`unused`). 4, 5 and 7 come only
-//! where a count of faults rose (`read_fault`, `write_fault`, `sink_fault`). At 3, 4, 6, 8 and 9 no file has changed but
-//! by the recovery that `run` and `recover` begin with (`unchanged`). Wherever a command is stopped, a crash leaves
-//! files that stand for the old repository or for the new one (`any_moment`); after `run` and `recover` answer 0, 1 or 7
-//! for the new one alone (`one_image`), with nothing left to sync (`synced`). No clause speaks of workers.
+//! where a count of faults rose (`read_fault`, `write_fault`, `sink_fault`). At 3, 4, 6, 8 and 9 no file has changed
+//! but by the recovery that `run` and `recover` begin with (`unchanged`). Wherever a command is stopped, a crash leaves
+//! files that stand for the old repository or for the new one (`any_moment`); after `run` and `recover` answer 0, 1 or
+//! 7 for the new one alone (`one_image`), with nothing left to sync (`synced`). No clause speaks of workers.
 //!
 //! Definitions, in this order: `Sources` and `Limits` (which files are read, and how many there may be), `Meanings` and
 //! `Opening` (the state and the plan that a run begins with), `Running` (how a recipe ends over a repository, by the
-//! scheduler's `run`), `Changes` (what is written), `Report` and `Checking` (the texts), `Histories` and `Journals` (the
-//! runs before, and what a stopped one left), `Answers`, `Statuses`, `Moments` (old or new). The words are those of the
-//! crate `command_words`. `Ends` and `Prepared` serve private functions alone.
+//! scheduler's `run`), `Changes` (what is written), `Report` and `Checking` (the texts), `Histories` and `Journals`
+//! (the runs before, and what a stopped one left), `Answers`, `Statuses`, `Moments` (old or new). The words are those
+//! of the crate `command_words`. `Ends` and `Prepared` serve private functions alone.
 #![tactic(auto)]
 
 mod changes;
