@@ -1,5 +1,5 @@
 -- What each leaf recipe does, by its kind.
-use Rattle.std.proofs.Common.{◌≡◌, ℕ, List, [], refl, sym, ap, ◌∙◌}
+use Rattle.std.proofs.Common.{◌≡◌, ℕ, List, [], sym, ap, ◌∙◌}
 use Rattle.rw_host.specs.declared.file.FileEdit.{FileEdit}
 use Rattle.rw_host.specs.declared.file.FileEdit.TheVariants as edit
 use Rattle.rw_host.specs.declared.file.SourceFile.{SourceFile}

@@ -1,8 +1,8 @@
 -- What becomes of one file, by cases, as the functions meet them.
-use Rattle.std.proofs.Common.{◌≡◌, ℕ, ◌+◌, ◌<◌, ◌≤◌, Bool, true, false, not, ◌&&◌, ◌||◌, List, [], ◌∷◌, ◌++◌, length, take, drop, get_or, Option, Some, None, refl, sym, ap, subst, ◌∙◌, add-one, drop-cons, append_assoc, if◌then◌else◌}
+use Rattle.std.proofs.Common.{◌≡◌, ℕ, ◌+◌, ◌<◌, ◌≤◌, Bool, true, false, not, ◌&&◌, ◌||◌, List, [], ◌∷◌, ◌++◌, length, take, drop, get_or, Option, Some, None, refl, sym, ap, subst, ◌∙◌, add-one, drop-cons}
 use Rattle.std.specs.Prelude.{unwrap_or, slice_index_or}
 use Rattle.std.specs.List.{list_any, list_all}
-use Rattle.std.proofs.lemmas.List.{drop_all, append-nil, take_all}
+use Rattle.std.proofs.lemmas.List.{drop_all, take_all}
 use Rattle.std.proofs.lemmas.List.Folds.{list_any_more, list_any_at}
 use Rattle.rw_base.specs.Arena.{Arena, end_of}
 use Rattle.rw_base.specs.NewText.{new_text, AreEdits}
@@ -12,7 +12,7 @@ use Rattle.kept_files.specs.declared.reading.Reading.{Reading}
 use Rattle.kept_files.specs.declared.reading.Reading.TheVariants as reading
 use Rattle.rw_host.specs.declared.file.FileEdit.{FileEdit}
 use Rattle.rw_host.specs.declared.file.FileEdit.TheVariants as edit
-use Rattle.kept_files.specs.FileEdits.{FitTree, FitsFile, edited, text_by}
+use Rattle.kept_files.specs.FileEdits.{FitTree, edited, text_by}
 use Rattle.kept_files.specs.Readings.{Reads, IsReading, EndsWith}
 use Rattle.kept_files.specs.States.{State, IsKept, EndsAt, file_at, tree_in}
 use Rattle.kept_files.specs.declared.file.KeptFile.{KeptFile}
@@ -20,9 +20,9 @@ use Rattle.recipe_yaml.specs.declared.plans.Plan.{Plan}
 use Rattle.recipe_yaml.specs.declared.plans.PlannedLeaf.{PlannedLeaf}
 use Rattle.recipe_yaml.specs.declared.plans.Condition.{Condition}
 use Rattle.scheduler.specs.declared.fate.Fate.{Fate}
-use Rattle.scheduler.specs.declared.fate.Fate.TheVariants.{Stays, Goes, Lost, Taken, Becomes}
+use Rattle.scheduler.specs.declared.fate.Fate.TheVariants.{Stays, Goes, Lost, Becomes}
 use Rattle.scheduler.specs.Edits.{edits}
-use Rattle.scheduler.specs.Holds.{holds, holds_by, met_from, gives, is_edit}
+use Rattle.scheduler.specs.Holds.{holds, holds_by, met_from, gives}
 use Rattle.scheduler.specs.Fates.{accepted, read_anew, fate, fate_at}
 use Rattle.scheduler.specs.Steps.{IsFateKept}
 

@@ -1,6 +1,5 @@
 -- A renaming of keys, whose new bytes are made without edits.
-use Rattle.std.proofs.Common.{◌≡◌, ◌⊎◌, ℕ, true, List, [], ◌∷◌, Option, Some, None, refl, sym, ap, subst, ◌∙◌, inl, inr}
-use Rattle.std.specs.Prelude.{unwrap_or}
+use Rattle.std.proofs.Common.{◌≡◌, ◌⊎◌, ℕ, true, List, [], ◌∷◌, Option, Some, None, refl, sym, ap, ◌∙◌, inl, inr}
 use Rattle.rw_base.specs.Arena.{Arena}
 use Rattle.rw_base.specs.declared.edit.Edit.{Edit}
 use Rattle.rw_host.specs.declared.file.FileEdit.{FileEdit}
@@ -10,7 +9,6 @@ use Rattle.kept_files.specs.FileEdits.{edited, text_after, with_edits}
 use Rattle.kept_files.specs.Readings.{Reads}
 use Rattle.kept_files.specs.States.{State, file_at, properties_in}
 use Rattle.kept_files.specs.declared.file.KeptFile.{KeptFile}
-use Rattle.recipe_yaml.specs.declared.plans.LeafRecipe.{LeafRecipe}
 use Rattle.recipe_yaml.specs.declared.plans.LeafRecipe.TheVariants as leaf
 use Rattle.recipe_yaml.specs.declared.plans.Plan.{Plan}
 use Rattle.recipe_yaml.specs.declared.plans.PlannedLeaf.{PlannedLeaf}

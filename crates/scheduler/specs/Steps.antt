@@ -9,7 +9,7 @@ use Rattle.recipe_yaml.specs.declared.plans.Plan.{Plan}
 use Rattle.recipe_yaml.specs.declared.plans.PlannedLeaf.{PlannedLeaf}
 use Rattle.recipe_yaml.specs.declared.plans.LeafRecipe.TheVariants as leaf
 use Rattle.scheduler.specs.declared.fate.Fate.{Fate}
-use Rattle.scheduler.specs.declared.fate.Fate.TheVariants.{Stays, Goes, Lost, Taken, Becomes}
+use Rattle.scheduler.specs.declared.fate.Fate.TheVariants.{Goes, Lost, Taken, Becomes}
 use Rattle.scheduler.specs.declared.event.DropCause.TheVariants as cause
 use Rattle.scheduler.specs.declared.event.Event.{Event}
 use Rattle.scheduler.specs.declared.event.Event.TheVariants as event

@@ -136,12 +136,20 @@ fn edited(alloc: Global, file: &KeptFile, edits: &[Edit]) -> Mem<Vec<u8>>
     let Some(bytes) = &file.bytes else {
         return Ok(Vec::new(alloc));
     };
+    let bytes = bytes.get().as_slice();
     match &file.reading {
-        Reading::Java(tree) => rearranged(alloc, tree, bytes.get().as_slice(), edits),
-        Reading::Yaml(tree) => rearranged(alloc, tree, bytes.get().as_slice(), edits),
+        Reading::Java(tree) => {
+            let text = rearranged(alloc, tree, bytes, edits)?;
+            Ok(text)
+        }
+        Reading::Yaml(tree) => {
+            let text = rearranged(alloc, tree, bytes, edits)?;
+            Ok(text)
+        }
         Reading::Properties(tree) => {
             let tree = tree.made(alloc)?;
-            rearranged(alloc, &tree, bytes.get().as_slice(), edits)
+            let text = rearranged(alloc, &tree, bytes, edits)?;
+            Ok(text)
         }
         Reading::Unread => Ok(Vec::new(alloc)),
         Reading::Refused(_) => Ok(Vec::new(alloc)),
