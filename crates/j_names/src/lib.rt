@@ -2,6 +2,9 @@
 #![tactic(auto)]
 
 mod context;
+mod members;
+mod methods;
+mod walk;
 
 pub use context::{EnclosingClass, Frame, ImportRow, LocalField, UnitContext};
 pub use jtypes::{Ask, Symbol, UnitTypes};
