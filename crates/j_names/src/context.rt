@@ -48,4 +48,7 @@ pub enum Frame {
         fields: Items<LocalField>,
         methods: Items<Name>,
     },
+    /// A local class that was declared further out in a block, and whose body isn't around the place. It declares just
+    /// its name, as a type that isn't known.
+    Declared { name: Name },
 }
