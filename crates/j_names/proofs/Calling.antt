@@ -4,7 +4,6 @@ use Rattle.dialogue.specs.Dialogue.{first_found}
 use Rattle.dialogue.specs.Told.{Told}
 use Rattle.jtypes.specs.World.{World, Rule}
 use Rattle.jtypes.specs.declared.ask.Ask.{Ask}
-
 use Rattle.j_names.specs.Calls.{call_in_frame, call_in_class, call_meant, found_in, static_methods}
 use Rattle.j_names.specs.declared.called.Called.{Called}
 use Rattle.j_names.specs.Names.{outward, top_around, static_owners}

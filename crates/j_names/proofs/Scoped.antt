@@ -30,22 +30,22 @@ module _ {A : Type 0} (n : List ℕ) (f : Frame → Rule (Option A))
       (passed (subst (λ p. behind p ≤ end) (sym e) (omega arith)))
 
   module _ (at : ℕ) (e : place ≡ Some at) (x : Frame) (within : end ≤ length frames) (is : x ≡ get_or frames at x)
-      where
-    past_it : Told (first_found (map f (reverse (drop (suc at) frames)))) w s m None
-    past_it =
-        subst (λ p. Told (first_found (map f (reverse (drop (behind p) frames)))) w s m None) e
-        (passed (subst (λ p. behind p ≤ end) (sym e) (omega (arith, last.within at e))))
+    where
+      past_it : Told (first_found (map f (reverse (drop (suc at) frames)))) w s m None
+      past_it =
+          subst (λ p. Told (first_found (map f (reverse (drop (behind p) frames)))) w s m None) e
+          (passed (subst (λ p. behind p ≤ end) (sym e) (omega (arith, last.within at e))))
 
-    inside : at < length frames
-    inside = omega (arith, last.within at e, within)
+      inside : at < length frames
+      inside = omega (arith, last.within at e, within)
 
-    pub next_past : (t : List Ask) (o : Option A) → Told (f x) w m t o
-        → Told (first_found (map f (reverse (drop at frames)))) w s t o
-    next_past t o k = outward_more frames at x inside is f w (suc at) refl s m t past_it o k
+      pub next_past : (t : List Ask) (o : Option A) → Told (f x) w m t o
+          → Told (first_found (map f (reverse (drop at frames)))) w s t o
+      next_past t o k = outward_more frames at x inside is f w (suc at) refl s m t past_it o k
 
-    pub next_here : (t : List Ask) (a : A) → Told (f x) w m t (Some a)
-        → Told (first_found (map f (reverse frames))) w s t (Some a)
-    next_here t a k = outward_end frames at x inside is f w (suc at) refl s m t past_it a k
+      pub next_here : (t : List Ask) (a : A) → Told (f x) w m t (Some a)
+          → Told (first_found (map f (reverse frames))) w s t (Some a)
+      next_here t a k = outward_end frames at x inside is f w (suc at) refl s m t past_it a k
 
 -- frames that don't matter have nothing of the name
 pub no_type : (top : Option (List ℕ)) (n : List ℕ) (x : Frame) → matters n x ≡ false → type_in_frame top n x ≡ done None

@@ -1,13 +1,12 @@
-// Which methods a call may mean.
+// Which methods a call without receiver may mean.
 ghost use Rattle.std.specs.Prelude.{◌≡◌, ◌∷◌, ◌++◌, [], IfOk, OnOk, Option, Some, None, map, filter, if◌then◌else◌};
 ghost use Rattle.std.specs.Option.{option_copied};
 ghost use Rattle.dialogue.specs.Dialogue.{first_found};
 ghost use Rattle.dialogue.specs.Told.{Told};
-ghost use Rattle.jtypes.specs.Subtype.{object_name};
 ghost use Rattle.j_names.specs.Calls.{some_of, found_in, inherited_call, call_in_frame, call_in_class, and_static};
-ghost use Rattle.j_names.specs.Calls.{static_methods, call_meant, called, methods_behind};
+ghost use Rattle.j_names.specs.Calls.{static_methods, call_meant, called};
 ghost use Rattle.j_names.specs.Members.{methods_of, methods_inherited};
-ghost use Rattle.j_names.specs.Names.{top_around, outward, or_else};
+ghost use Rattle.j_names.specs.Names.{outward, or_else};
 
 use crate::called::Called;
 use crate::context::{EnclosingClass, Frame, UnitContext};
@@ -15,8 +14,7 @@ use crate::frames::Frames;
 use crate::methods::{methods_inherited, methods_of};
 use crate::owners::static_owners;
 use crate::places::{is_among, top_around};
-use crate::walk::object;
-use jtypes::{Asks, Classes, JType, MethodSig, Name};
+use jtypes::{Asks, Classes, MethodSig, Name};
 use rw_base::Mem;
 use sqlite_items::Items;
 use std::alloc::Global;
@@ -103,7 +101,9 @@ fn call_in_frame<C: Classes>(
             Ok(found)
         }
         Frame::LocalClass {
-            supertype, methods, ..
+            supertype,
+            methods,
+            ..
         } => {
             if is_among(methods.as_slice(), n) {
                 return Ok(Some(Called::Unknown));
@@ -268,66 +268,4 @@ pub fn called_asking<C: Classes>(
 {
     let found = call_meant(alloc, cx, frames, name, c, asks)?;
     Ok(or_none(alloc, found))
-}
-
-/// The methods of a name that a class has (JLS 8.4.8), its own and inherited ones in the order of the walk, with the
-/// questions of the walk put to `asks`.
-pub fn methods_of_asking<C: Classes>(
-    alloc: Global,
-    cx: &UnitContext,
-    class: &Name,
-    name: &Name,
-    c: &C,
-    asks: &mut Asks,
-) -> Mem<Items<MethodSig>>
-    ensures told { IfOk result (λ ms.
-        Told (methods_of (top_around cx.now) name.now class.now) (C.world c.now) asks.old asks.new ms) }
-{
-    let top = top_around(cx);
-    let methods = methods_of(alloc, top, name, class, c, asks)?;
-    Ok(methods)
-}
-
-/// The methods of a name that Object has.
-fn methods_of_object<C: Classes>(
-    alloc: Global,
-    cx: &UnitContext,
-    name: &Name,
-    c: &C,
-    asks: &mut Asks,
-) -> Mem<Items<MethodSig>>
-    ensures { IfOk result (λ ms.
-        Told (methods_of (top_around cx.now) name.now object_name) (C.world c.now) asks.old asks.new ms) }
-{
-    let top = top_around(cx);
-    let object = object(alloc)?;
-    let methods = methods_of(alloc, top, name, &object, c, asks)?;
-    Ok(methods)
-}
-
-/// The methods of a name that a receiver of a type has (JLS 15.12.1), with the questions of the walk put to `asks`: those
-/// of its class, those of Object for an array, else none.
-#[tactic(auto, unfolding(crate::specs::Calls::methods_behind))]
-pub fn methods_behind_asking<C: Classes>(
-    alloc: Global,
-    cx: &UnitContext,
-    ty: &JType,
-    name: &Name,
-    c: &C,
-    asks: &mut Asks,
-) -> Mem<Items<MethodSig>>
-    ensures told { IfOk result (λ ms.
-        Told (methods_behind (top_around cx.now) ty.now name.now) (C.world c.now) asks.old asks.new ms) }
-{
-    match ty {
-        JType::Class(class) => {
-            let methods = methods_of_asking(alloc, cx, class, name, c, asks)?;
-            Ok(methods)
-        }
-        JType::Array(_) => {
-            let methods = methods_of_object(alloc, cx, name, c, asks)?;
-            Ok(methods)
-        }
-        _ => Ok(Items::new(alloc)),
-    }
 }

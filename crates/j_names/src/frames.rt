@@ -72,6 +72,13 @@ impl Frames {
         Ok(())
     }
 
+    /// Leaves the innermost scope, where there is one.
+    pub fn pop(&mut self) -> Option<Frame>
+        ensures { MatchOption result ((self.old ≡ []) × (self.new ≡ [])) (λ last. self.old ≡ self.new ++ last ∷ []) }
+    {
+        self.items.pop()
+    }
+
     /// Leaves all scopes behind the first so many.
     pub fn truncate(&mut self, len: usize)
         ensures { self.new ≡ take len self.old }

@@ -109,7 +109,9 @@ fn type_in_frame<C: Classes>(
             Ok(found)
         }
         Frame::LocalClass {
-            name, supertype, ..
+            name,
+            supertype,
+            ..
         } => {
             if let Some(s) = inherited_type(alloc, top, n, supertype, c, asks)? {
                 return Ok(Some(s));

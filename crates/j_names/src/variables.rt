@@ -83,7 +83,9 @@ fn variable_in_frame<C: Classes>(
             Ok(found)
         }
         Frame::LocalClass {
-            supertype, fields, ..
+            supertype,
+            fields,
+            ..
         } => {
             if let Some(s) = declared_local(fields.as_slice(), n)? {
                 return Ok(Some(s));

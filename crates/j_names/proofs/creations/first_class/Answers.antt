@@ -12,7 +12,7 @@ pub returns-in_default : goal.returns-in_default
 returns-in_default g c =
     let w = g.C.Classes.world c.args.c.now in
     let there : None ≡ first c.args.supertypes.now =
-        sym (ap option_copied c.in_default.is) ∙ c.first.ensures.value ∙ first_is c.args.supertypes.now in
+    sym (ap option_copied c.in_default.is) ∙ c.first.ensures.value ∙ first_is c.args.supertypes.now in
     subst (λ o. Told (where_asked o) w c.args.asks.now c.args.asks.now None) there (told_done w c.args.asks.now None)
 
 pub returns : goal.returns
@@ -20,7 +20,7 @@ returns g c =
     let w = g.C.Classes.world c.args.c.now in
     let name = c.in-Some.name.now in
     let there : Some name ≡ first c.args.supertypes.now =
-        sym (ap option_copied c.in-Some.is) ∙ c.first.ensures.value ∙ first_is c.args.supertypes.now in
+    sym (ap option_copied c.in-Some.is) ∙ c.first.ensures.value ∙ first_is c.args.supertypes.now in
     let header = option_copied c.in_ok-header.header in
     subst (λ o. Told (where_asked o) w c.args.asks.now c.ask_class.new.asks c.in_ok-class.class) there
     (class_asked w c.args.asks.now c.ask_class.new.asks c.ask_class.new.asks c.in_ok-class.class name

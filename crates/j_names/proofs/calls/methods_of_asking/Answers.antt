@@ -1,4 +1,0 @@
-use Rattle.j_names.proofs.calls.methods_of_asking.Goals as goal
-
-pub returns : goal.returns
-returns g c = record { told = rw c.top_around-top.ensures at c.in_ok-methods.ensures; }
