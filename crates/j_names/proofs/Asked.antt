@@ -1,5 +1,5 @@
 -- One look at a class or at methods, and what is done with the answer.
-use Rattle.std.proofs.Common.{◌≡◌, subst, refl, sym, ℕ, List, [], ◌∷◌, Option, None, Some, slice_get}
+use Rattle.std.proofs.Common.{◌≡◌, subst, refl, ℕ, List, [], ◌∷◌, Option, slice_get}
 use Rattle.dialogue.specs.Dialogue.{ask}
 use Rattle.dialogue.specs.Told.{Told, Heard}
 use Rattle.dialogue.specs.ToldLaws.{told_ask}

@@ -1,5 +1,5 @@
 -- The look for the type of a qualified name.
-use Rattle.std.proofs.Common.{◌≡◌, List, ℕ, [], ◌∷◌, Option, sym, ap, subst, ◌∙◌}
+use Rattle.std.proofs.Common.{◌≡◌, List, ℕ, [], ◌∷◌, Option, ap, subst, ◌∙◌}
 use Rattle.dialogue.specs.Dialogue.{done}
 use Rattle.dialogue.specs.Told.{Told, Heard}
 use Rattle.dialogue.specs.ToldLaws.{told_ask, told_done}
@@ -10,7 +10,9 @@ use Rattle.jtypes.specs.declared.signatures.Header.{Header}
 use Rattle.j_names.specs.Members.{type_at, counting_type}
 use Rattle.jtypes.specs.declared.symbol.Symbol.{Symbol}
 
-pub told_type : (top : Option (List ℕ)) (name : List ℕ) (w : World) (old new : List Ask) (h : Option Header) (r : Option Symbol) → Heard old (AskClass name ∷ []) new → h ≡ w (AskClass name) → r ≡ counting_type top name h → Told (type_at top name) w old new r
+pub told_type : (top : Option (List ℕ)) (name : List ℕ) (w : World) (old new : List Ask) (h : Option Header)
+    (r : Option Symbol) → Heard old (AskClass name ∷ []) new → h ≡ w (AskClass name) → r ≡ counting_type top name h
+    → Told (type_at top name) w old new r
 unfolding type_at
 told_type top name w old new h r heard e is =
     told_ask (AskClass name) (λ header. done (counting_type top name header)) w old new new r heard

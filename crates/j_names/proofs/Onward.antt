@@ -1,5 +1,6 @@
 -- Loops over a list that end at the first item that has something.
-use Rattle.std.proofs.Common.{◌≡◌, ◌∙◌, sym, ap, subst, ℕ, List, [], ◌∷◌, ◌++◌, ◌+◌, ◌<◌, Option, None, Some, take, drop}
+use Rattle.std.proofs.Common.{◌≡◌, ◌∙◌, sym, ap, subst, ℕ, List, [], ◌∷◌, ◌++◌, ◌+◌, ◌<◌, Option, None, Some, take}
+use Rattle.std.proofs.Common.{drop}
 use Rattle.std.proofs.Common.{suc, length, get_or, map, add-one}
 use Rattle.std.proofs.Math.Seq.{take-suc, drop-cons}
 use Rattle.std.proofs.lemmas.List.{take-append-drop}

@@ -1,10 +1,11 @@
 -- Loops that go outward over the frames that matter.
-use Rattle.std.proofs.Common.{◌≡◌, ℕ, List, [], ◌∷◌, ◌++◌, Option, None, Some, Bool, true, false, zero, suc, drop, take}
-use Rattle.std.proofs.Common.{length, get_or, ◌<◌, ◌≤◌, refl, sym, ap, subst, ◌∙◌, map, filter, arith, if◌then◌else◌}
+use Rattle.std.proofs.Common.{◌≡◌, ℕ, List, Option, None, Some, false, suc, drop}
+use Rattle.std.proofs.Common.{take}
+use Rattle.std.proofs.Common.{length, get_or, ◌<◌, ◌≤◌, refl, sym, subst, map, arith}
 use Rattle.std.specs.Prelude.{reverse}
 use Rattle.dialogue.specs.Dialogue.{done, first_found}
 use Rattle.dialogue.specs.Told.{Told}
-use Rattle.jtypes.specs.World.{World, Rule, name_eq}
+use Rattle.jtypes.specs.World.{World, Rule}
 use Rattle.jtypes.specs.declared.ask.Ask.{Ask}
 use Rattle.jtypes.proofs.Equality.{true_false}
 use Rattle.j_names.specs.Calls.{call_in_frame}
@@ -48,7 +49,8 @@ module _ {A : Type 0} (n : List ℕ) (f : Frame → Rule (Option A))
       next_here t a k = outward_end frames at x inside is f w (suc at) refl s m t past_it a k
 
 -- frames that don't matter have nothing of the name
-pub no_type : (top : Option (List ℕ)) (n : List ℕ) (x : Frame) → matters n x ≡ false → type_in_frame top n x ≡ done None
+pub no_type : (top : Option (List ℕ)) (n : List ℕ) (x : Frame) → matters n x ≡ false
+    → type_in_frame top n x ≡ done None
 no_type top n (LocalFrame name ty) e = refl
 no_type top n (TypeParam name) e = rw e refl
 no_type top n (ClassFrame name) e = true_false e
@@ -63,7 +65,8 @@ no_variable top n (ClassFrame name) e = true_false e
 no_variable top n (LocalClass name supertype fields methods) e = true_false e
 no_variable top n (Declared name) e = refl
 
-pub no_call : (top : Option (List ℕ)) (n : List ℕ) (x : Frame) → matters n x ≡ false → call_in_frame top n x ≡ done None
+pub no_call : (top : Option (List ℕ)) (n : List ℕ) (x : Frame) → matters n x ≡ false
+    → call_in_frame top n x ≡ done None
 no_call top n (LocalFrame name ty) e = refl
 no_call top n (TypeParam name) e = refl
 no_call top n (ClassFrame name) e = true_false e

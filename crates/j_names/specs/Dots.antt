@@ -1,5 +1,5 @@
 -- What a name behind a dot means (JLS 6.5.5.2, 6.5.6.2, 15.11).
-use Rattle.std.specs.Prelude.{ℕ, List, [], ◌∷◌, Option, None, Some, codes, if◌then◌else◌}
+use Rattle.std.specs.Prelude.{ℕ, List, [], ◌∷◌, Option, codes, if◌then◌else◌}
 use Rattle.dialogue.specs.Dialogue.{done, bind, first_found}
 use Rattle.jtypes.specs.World.{Rule, name_eq}
 use Rattle.jtypes.specs.Arrays.{ArrayOf}

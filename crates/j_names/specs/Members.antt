@@ -1,5 +1,5 @@
 -- What walks look for: fields, member types, and methods of a name (JLS 8.2, 8.3, 8.4.8, 8.5, 9.2).
-use Rattle.std.specs.Prelude.{ℕ, List, [], ◌∷◌, ◌++◌, Option, None, Some, Bool, true, false, ◌||◌, ◌&&◌, not, filter}
+use Rattle.std.specs.Prelude.{ℕ, List, [], ◌∷◌, ◌++◌, Option, None, Some, Bool, false, ◌||◌, ◌&&◌, not, filter}
 use Rattle.std.specs.Prelude.{is_some, if◌then◌else◌}
 use Rattle.dialogue.specs.Dialogue.{done, ask}
 use Rattle.jtypes.specs.World.{Rule, name_eq}

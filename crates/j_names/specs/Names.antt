@@ -1,6 +1,6 @@
 -- What a simple name means at a place (JLS 6.3 to 6.5, 7.5): the frames and classes around it from the innermost
 -- outward, then imports and the package.
-use Rattle.std.specs.Prelude.{ℕ, List, [], ◌∷◌, ◌++◌, Option, None, Some, Bool, true, false, ◌&&◌, ◌+◌, ◌-◌, not}
+use Rattle.std.specs.Prelude.{ℕ, List, [], ◌∷◌, ◌++◌, Option, None, Some, Bool, ◌&&◌, ◌+◌, ◌-◌, not}
 use Rattle.std.specs.Prelude.{filter, map, reverse, take, length, nat_eq, codes, if◌then◌else◌}
 use Rattle.dialogue.specs.Dialogue.{done, bind, in_turn, first_found}
 use Rattle.jtypes.specs.World.{Rule, name_eq, first}

@@ -97,8 +97,8 @@ fn first_class<C: Classes>(supertypes: &[Name], c: &C, asks: &mut Asks) -> Mem<O
     Ok(class)
 }
 
-/// The superclass of a class (JLS 8.1.4) for `super` and `super(..)`, with its questions put to `asks`: the first of its
-/// supertypes, where that is there and is neither an interface nor an annotation type.
+/// The superclass of a class (JLS 8.1.4) for `super` and `super(..)`, with its questions put to `asks`: the first of
+/// its supertypes, where that is there and is neither an interface nor an annotation type.
 pub fn superclass_of_asking<C: Classes>(class: &Name, c: &C, asks: &mut Asks) -> Mem<Option<Name>>
     ensures told { IfOk result (λ s.
         Told (superclass_of class.now) (C.world c.now) asks.old asks.new s) }
@@ -110,8 +110,8 @@ pub fn superclass_of_asking<C: Classes>(class: &Name, c: &C, asks: &mut Asks) ->
     Ok(superclass)
 }
 
-/// The class of `T.super` (JLS 15.11.2, 15.12.1), with its questions put to `asks`: T where it is an interface, else its
-/// superclass.
+/// The class of `T.super` (JLS 15.11.2, 15.12.1), with its questions put to `asks`: T where it is an interface, else
+/// its superclass.
 pub fn super_of_asking<C: Classes>(class: &Name, c: &C, asks: &mut Asks) -> Mem<Option<Name>>
     ensures told { IfOk result (λ s. Told (super_of class.now) (C.world c.now) asks.old asks.new s) }
 {

@@ -43,8 +43,8 @@ fn put_unless_hidden(earlier: &[MethodSig], m: &MethodSig, all: &mut Items<Metho
     Ok(())
 }
 
-/// The candidates among the methods of a walk (JLS 8.4.8, 15.12.2.1), in order: those whose name and erased parameters no
-/// earlier one of another class has.
+/// The candidates among the methods of a walk (JLS 8.4.8, 15.12.2.1), in order: those whose name and erased parameters
+/// no earlier one of another class has.
 pub fn candidates(alloc: Global, methods: &[MethodSig]) -> Mem<Items<MethodSig>>
     ensures value { IfOk result (λ all. all ≡ candidates methods.now) }
 {

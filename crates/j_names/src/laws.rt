@@ -23,8 +23,8 @@ pub fn equal_answers_give_equal_meanings()
         → run (variable_named cx frames n) v ≡ run (variable_named cx frames n) w }
 {}
 
-/// In two worlds that answer alike what a walk asked in the first, it finds the same. `top` is the top-level class around
-/// the place, where there is one.
+/// In two worlds that answer alike what a walk asked in the first, it finds the same. `top` is the top-level class
+/// around the place, where there is one.
 pub fn equal_answers_give_equal_walks()
     ensures field { (w v : World) (top : Option (List ℕ)) (n name : List ℕ)
         → AnswerAlike w v (asked (field_of top n name) w)

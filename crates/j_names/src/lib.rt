@@ -7,22 +7,22 @@
 //! let symbol = meaning_of_asking(alloc, &cx, &frames, &n, &world, &mut asks)?;
 //! ```
 //!
-//! A place is given by its `UnitContext`, the package, imports and classes around a unit of a file, and by its `Frames`,
-//! the scopes inside of the unit. A world is anything that answers with what each class declares itself (`Classes` of
-//! jtypes); what a class inherits is found here, by a walk over its supertypes.
+//! A place is given by its `UnitContext`, the package, imports and classes around a unit of a file, and by its
+//! `Frames`, the scopes inside of the unit. A world is anything that answers with what each class declares itself
+//! (`Classes` of jtypes); what a class inherits is found here, by a walk over its supertypes.
 //!
-//! Each function of a name `.._asking` follows a rule of `specs/`, and its clause `told` says so exactly: it gives what the
-//! rule gives, and it puts the questions of the rule to the set, no more and no less (`Told` of dialogue). Simple names are
-//! `type_named`, `variable_named` and `meaning_of`; behind a dot `behind_package`, `behind_type`, `field_behind` and, in a
-//! type position, `type_behind`; calls `called`, `methods_behind` and `methods_of`, whose hidden methods `candidates`
-//! leaves out; creations `constructors_of`, `superclass_of` and `super_of`. The three of simple names have a form without
-//! questions, too (`gives`). In a world that answers alike what was asked, the meaning and its questions are the same
-//! (`equal_answers_give_equal_meanings`, `equal_answers_give_equal_walks`), so that a name must be judged again only where
-//! an answer to one of its questions has changed.
+//! Each function of a name `.._asking` follows a rule of `specs/`, and its clause `told` says so exactly: it gives what
+//! the rule gives, and it puts the questions of the rule to the set, no more and no less (`Told` of dialogue). Simple
+//! names are `type_named`, `variable_named` and `meaning_of`; behind a dot `behind_package`, `behind_type`,
+//! `field_behind` and, in a type position, `type_behind`; calls `called`, `methods_behind` and `methods_of`, whose
+//! hidden methods `candidates` leaves out; creations `constructors_of`, `superclass_of` and `super_of`. The three of
+//! simple names have a form without questions, too (`gives`). In a world that answers alike what was asked, the meaning
+//! and its questions are the same (`equal_answers_give_equal_meanings`, `equal_answers_give_equal_walks`), so that a
+//! name must be judged again only where an answer to one of its questions has changed.
 //!
 //! Read `specs/Walk.antt` first (the walk over a class and what it inherits), then `Members` (what walks look for, and
-//! which members count), `Names` (simple names, from the innermost scope outward), `Dots` and `Calls`. `Scopes` says which
-//! scopes a look-up by name may leave out.
+//! which members count), `Names` (simple names, from the innermost scope outward), `Dots` and `Calls`. `Scopes` says
+//! which scopes a look-up by name may leave out.
 #![tactic(auto)]
 
 mod called;

@@ -11,7 +11,8 @@ use rw_base::Mem;
 use sqlite_items::Items;
 use std::alloc::Global;
 
-/// Whether a method of a class that a walk visits counts: a static one of an interface only where the walk begins there.
+/// Whether a method of a class that a walk visits counts: a static one of an interface only where the walk begins
+/// there.
 fn method_counts(
     top: Option<&Name>,
     begins: Option<&Name>,

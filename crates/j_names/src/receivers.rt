@@ -50,8 +50,8 @@ fn methods_of_object<C: Classes>(
     Ok(methods)
 }
 
-/// The methods of a name that a receiver of a type has (JLS 15.12.1), with the questions of the walk put to `asks`: those
-/// of its class, those of Object for an array, else none.
+/// The methods of a name that a receiver of a type has (JLS 15.12.1), with the questions of the walk put to `asks`:
+/// those of its class, those of Object for an array, else none.
 #[tactic(auto, unfolding(crate::specs::Calls::methods_behind))]
 pub fn methods_behind_asking<C: Classes>(
     alloc: Global,

@@ -19,7 +19,8 @@ use std::alloc::Global;
 
 /// A class by its own name.
 fn own_type(name: &Name, n: &Name) -> Mem<Option<Symbol>>
-    ensures { IfOk result (λ s. s ≡ (if name_eq (last_part name.now) n.now then Some (Symbol.Kind name.now) else None)) }
+    ensures { IfOk result (λ s.
+        s ≡ (if name_eq (last_part name.now) n.now then Some (Symbol.Kind name.now) else None)) }
 {
     if has_last_part(name, n) {
         return Ok(Some(Symbol::Kind(name.copy()?)));

@@ -7,5 +7,6 @@ use Rattle.j_names.proofs.calls.call_handed_on.Goals as goal
 pub returns : goal.returns
 returns g c =
     rw c.some_of.ensures
-    (told_map (methods_inherited (option_copied c.args.top) c.args.n.now c.args.supertype.now) some_of (g.C.Classes.world c.args.c.now)
+    (told_map (methods_inherited (option_copied c.args.top) c.args.n.now c.args.supertype.now) some_of
+    (g.C.Classes.world c.args.c.now)
     c.args.asks.now c.methods_inherited.new.asks c.in_ok-methods.methods c.in_ok-methods.ensures)

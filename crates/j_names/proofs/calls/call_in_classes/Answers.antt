@@ -1,4 +1,4 @@
-use Rattle.std.proofs.Common.{◌≡◌, None, Some, ◌-◌, arith}
+use Rattle.std.proofs.Common.{None, ◌-◌, arith}
 use Rattle.std.specs.Option.{option_copied}
 use Rattle.j_names.specs.Calls.{call_in_class}
 use Rattle.j_names.proofs.Visits.{suc_of}

@@ -2,7 +2,6 @@ use Rattle.std.proofs.Common.{◌∙◌, sym, ap, Some, None, if◌then◌else�
 use Rattle.std.specs.Option.{option_copied}
 use Rattle.j_names.specs.Walk.{is_in}
 use Rattle.j_names.specs.Calls.{inherited_call}
-use Rattle.j_names.specs.declared.called.Called.{Called}
 use Rattle.j_names.specs.declared.called.Called.TheVariants.{Unknown}
 use Rattle.j_names.proofs.Found.{rule_before, rule_behind}
 use Rattle.j_names.proofs.calls.call_in_frame.Goals as goal

@@ -1,4 +1,4 @@
-use Rattle.std.proofs.Common.{◌≡◌, ◌≤◌, None, drop, map, length}
+use Rattle.std.proofs.Common.{◌≤◌, None, drop, map, length}
 use Rattle.std.specs.Prelude.{reverse}
 use Rattle.std.specs.Option.{option_copied}
 use Rattle.dialogue.specs.Dialogue.{first_found}

@@ -1,4 +1,3 @@
-use Rattle.std.proofs.Common.{Some, None}
 use Rattle.std.specs.Option.{option_copied}
 use Rattle.dialogue.specs.ToldLaws.{told_map}
 use Rattle.j_names.specs.Calls.{some_of, static_methods}
@@ -13,14 +12,16 @@ returns-in-Some g c =
 
 pub returns-in-Some-2 : goal.returns-in-Some-2
 returns-in-Some-2 g c =
-    in_classes (g.C.Classes.world c.args.c.now) c.args.cx.now c.args.frames.now c.args.n.now _ c.top_around-top.ensures
+    in_classes (g.C.Classes.world c.args.c.now) c.args.cx.now c.args.frames.now c.args.n.now _
+    c.top_around-top.ensures
     c.args.asks.now c.call_in_frames.new.asks (rw c.in_default.is at c.in_ok-s.ensures)
     c.call_in_classes.new.asks c.in-Some-2.s (rw (c.in-Some-2.is, c.as_slice.ensures) at c.in_ok-s-2.ensures)
 
 pub returns : goal.returns
 returns g c =
     rw c.some_of.ensures
-    (in_owners (g.C.Classes.world c.args.c.now) c.args.cx.now c.args.frames.now c.args.n.now _ c.top_around-top.ensures
+    (in_owners (g.C.Classes.world c.args.c.now) c.args.cx.now c.args.frames.now c.args.n.now _
+    c.top_around-top.ensures
     c.args.asks.now c.call_in_frames.new.asks (rw c.in_default.is at c.in_ok-s.ensures)
     c.call_in_classes.new.asks c.static_methods.new.asks (some_of c.in_ok-methods.methods)
     (rw (c.in_default-2.is, c.as_slice.ensures) at c.in_ok-s-2.ensures)

@@ -10,5 +10,6 @@ unfolding called
 returns g c = rw c.or_none.ensures record {
   told =
       told_map (call_meant c.args.cx.now c.args.frames.now c.args.name.now) (or_else (Methods []))
-      (g.C.Classes.world c.args.c.now) c.args.asks.now c.call_meant.new.asks c.in_ok-found.found c.in_ok-found.ensures;
+      (g.C.Classes.world c.args.c.now) c.args.asks.now c.call_meant.new.asks c.in_ok-found.found
+      c.in_ok-found.ensures;
 }

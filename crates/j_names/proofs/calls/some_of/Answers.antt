@@ -1,4 +1,4 @@
-use Rattle.std.proofs.Common.{◌≡◌, ◌∙◌, sym, ap, refl, List, [], ◌∷◌, Some, None}
+use Rattle.std.proofs.Common.{◌≡◌, ◌∙◌, sym, ap, refl, List, [], ◌∷◌, Some}
 use Rattle.jtypes.proofs.Equality.{true_false}
 use Rattle.jtypes.specs.declared.signatures.MethodSig.{MethodSig}
 use Rattle.j_names.specs.Calls.{some_of}

@@ -1,4 +1,4 @@
-use Rattle.std.proofs.Common.{◌≡◌, [], arith, take, take_all}
+use Rattle.std.proofs.Common.{[], arith, take, take_all}
 use Rattle.std.specs.Option.{option_copied}
 use Rattle.dialogue.specs.ToldLaws.{in_turn_told}
 use Rattle.j_names.specs.Calls.{and_static}

@@ -1,7 +1,5 @@
-use Rattle.std.proofs.Common.{◌≡◌, ◌∙◌, sym, Some, None, true, false, if◌then◌else◌}
-use Rattle.dialogue.specs.Dialogue.{done}
-use Rattle.dialogue.specs.Told.{Told}
-use Rattle.dialogue.specs.ToldLaws.{told_done, told_value}
+use Rattle.std.proofs.Common.{◌∙◌, sym, Some, None}
+use Rattle.dialogue.specs.ToldLaws.{told_done}
 use Rattle.j_names.specs.Calls.{super_of, super_there}
 use Rattle.j_names.proofs.Asked.{class_asked}
 use Rattle.j_names.proofs.creations.super_of_asking.Goals as goal

@@ -10,7 +10,8 @@ returns-in_default g c =
     let w = g.C.Classes.world c.args.c.now in
     record {
       told =
-          class_asked w c.args.asks.now c.ask_class.new.asks c.ask_class.new.asks None c.args.class.now superclass_there
+          class_asked w c.args.asks.now c.ask_class.new.asks c.ask_class.new.asks None c.args.class.now
+          superclass_there
           None c.in_ok-header.ensures.asks (rw c.in_default.is at c.in_ok-header.ensures.value)
           (told_done w c.ask_class.new.asks None);
     }

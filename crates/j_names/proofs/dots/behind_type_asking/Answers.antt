@@ -1,4 +1,4 @@
-use Rattle.std.proofs.Common.{[], ◌∷◌, Some, None}
+use Rattle.std.proofs.Common.{[], ◌∷◌, Some}
 use Rattle.dialogue.specs.Dialogue.{first_found}
 use Rattle.dialogue.specs.ToldLaws.{told_map, found_here, found_past, found_last}
 use Rattle.j_names.specs.Dots.{behind_type}

@@ -1,4 +1,4 @@
-use Rattle.std.proofs.Common.{◌≡◌, ◌∙◌, sym, ap, ◌++◌, ◌+◌, take, arith, append-nil}
+use Rattle.std.proofs.Common.{◌∙◌, sym, ap, ◌++◌, take, arith, append-nil}
 use Rattle.std.proofs.lemmas.List.{drop_all}
 use Rattle.j_names.specs.Calls.{candidates, not_hidden}
 use Rattle.j_names.proofs.hiding.candidates.Goals as goal

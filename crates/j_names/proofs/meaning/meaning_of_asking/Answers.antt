@@ -31,7 +31,8 @@ returns-in-Some-2 g c =
       told =
           told_map (first_found (v ∷ t ∷ [])) (or_else (Package n)) w c.args.asks.now c.type_meant.new.asks
           (Some c.in-Some-2.s)
-          (found_past w v (t ∷ []) c.args.asks.now c.variable_meant.new.asks c.type_meant.new.asks (Some c.in-Some-2.s)
+          (found_past w v (t ∷ []) c.args.asks.now c.variable_meant.new.asks c.type_meant.new.asks
+          (Some c.in-Some-2.s)
           (rw c.in_default.is at c.in_ok-s.ensures)
           (found_last w t c.variable_meant.new.asks c.type_meant.new.asks (Some c.in-Some-2.s)
           (rw c.in-Some-2.is at c.in_ok-s-2.ensures)));

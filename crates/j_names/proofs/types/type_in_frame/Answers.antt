@@ -20,5 +20,6 @@ returns-in_default g c =
     rw c.in-LocalClass.is (value_behind (g.C.Classes.world c.args.c.now)
     (inherited_type (option_copied c.args.top) n c.in-LocalClass.supertype)
     (if name_eq c.in-LocalClass.name n then Some Unknown else None)
-    c.args.asks.now c.inherited_type.new.asks c.local_class.result (rw c.in_default.is at c.in_ok-s-in-LocalClass.ensures)
+    c.args.asks.now c.inherited_type.new.asks c.local_class.result
+    (rw c.in_default.is at c.in_ok-s-in-LocalClass.ensures)
     (rw c.is_name-in-LocalClass.ensures at c.local_class.ensures))

@@ -1,4 +1,4 @@
-use Rattle.std.proofs.Common.{None, Some, arith}
+use Rattle.std.proofs.Common.{None, arith}
 use Rattle.std.specs.Option.{option_copied}
 use Rattle.j_names.specs.Names.{type_in_frame}
 use Rattle.j_names.proofs.Scoped.{none_left, next_past, next_here, no_type}

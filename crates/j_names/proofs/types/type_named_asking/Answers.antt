@@ -8,5 +8,6 @@ unfolding type_named
 returns g c = rw c.or_unknown.ensures record {
   told =
       told_map (type_meant c.args.cx.now c.args.frames.now c.args.name.now) (or_else Unknown)
-      (g.C.Classes.world c.args.c.now) c.args.asks.now c.type_meant.new.asks c.in_ok-found.found c.in_ok-found.ensures;
+      (g.C.Classes.world c.args.c.now) c.args.asks.now c.type_meant.new.asks c.in_ok-found.found
+      c.in_ok-found.ensures;
 }

@@ -1,4 +1,4 @@
-use Rattle.std.proofs.Common.{◌≡◌, None, Some, arith, take_all}
+use Rattle.std.proofs.Common.{None, arith, take_all}
 use Rattle.std.specs.Option.{option_copied}
 use Rattle.j_names.specs.Members.{field_of}
 use Rattle.j_names.proofs.Onward.{onward_more, onward_end}

@@ -1,4 +1,4 @@
-use Rattle.std.proofs.Common.{None, Some, arith}
+use Rattle.std.proofs.Common.{None, arith}
 use Rattle.std.specs.Option.{option_copied}
 use Rattle.j_names.specs.Names.{variable_in_frame}
 use Rattle.j_names.proofs.Scoped.{none_left, next_past, next_here, no_variable}
@@ -8,7 +8,8 @@ pub returns-in-Some-2 : goal.returns-in-Some-2
 returns-in-Some-2 g c =
     let top = option_copied c.args.top in
     let n = c.args.n.now in
-    next_here n (variable_in_frame top n) (no_variable top n) (g.C.Classes.world c.args.c.now) c.args.asks.now c.loop-at.asks
+    next_here n (variable_in_frame top n) (no_variable top n)
+    (g.C.Classes.world c.args.c.now) c.args.asks.now c.loop-at.asks
     c.args.frames.now c.loop-at.end c.last_before.result c.last_before.ensures c.loop-at.invariant.told
     c.in-Some.at c.in-Some.is c.index-as_slice-at.result c.loop-at.invariant.within
     (rw c.as_slice.ensures at c.index-as_slice-at.is) c.variable_in_frame.new.asks c.in-Some-2.s
@@ -32,6 +33,7 @@ pub returns : goal.returns
 returns g c =
     let top = option_copied c.args.top in
     let n = c.args.n.now in
-    none_left n (variable_in_frame top n) (no_variable top n) (g.C.Classes.world c.args.c.now) c.args.asks.now c.loop-at.asks
+    none_left n (variable_in_frame top n) (no_variable top n)
+    (g.C.Classes.world c.args.c.now) c.args.asks.now c.loop-at.asks
     c.args.frames.now c.loop-at.end c.last_before.result c.last_before.ensures c.loop-at.invariant.told
     c.in_default.is

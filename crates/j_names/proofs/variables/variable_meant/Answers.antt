@@ -1,4 +1,3 @@
-use Rattle.std.proofs.Common.{Some, None}
 use Rattle.j_names.proofs.Variable.{in_frames, in_classes, in_owners}
 use Rattle.j_names.proofs.variables.variable_meant.Goals as goal
 
@@ -9,7 +8,8 @@ returns-in-Some g c =
 
 pub returns-in-Some-2 : goal.returns-in-Some-2
 returns-in-Some-2 g c =
-    in_classes (g.C.Classes.world c.args.c.now) c.args.cx.now c.args.frames.now c.args.n.now _ c.top_around-top.ensures
+    in_classes (g.C.Classes.world c.args.c.now) c.args.cx.now c.args.frames.now c.args.n.now _
+    c.top_around-top.ensures
     c.args.asks.now c.variable_in_frames.new.asks (rw c.in_default.is at c.in_ok-s.ensures)
     c.field_in_classes.new.asks c.in-Some-2.s (rw (c.in-Some-2.is, c.as_slice.ensures) at c.in_ok-s-2.ensures)
 

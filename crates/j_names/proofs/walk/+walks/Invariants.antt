@@ -12,5 +12,6 @@ decreases-walk_up g l = 2 * l.left
 
 abbrev pub invariant-walk_each-loop-name : goal.invariant-walk_each-loop-name
 invariant-walk_each-loop-name g l =
-    Told (in_turn (walk_up (sought g.S.Seek.over (g.S.Seek.visited l.seek)) l.left) (walked l.initial.found l.initial.seen) (take l.name-index l.names))
+    Told (in_turn (walk_up (sought g.S.Seek.over (g.S.Seek.visited l.seek)) l.left)
+    (walked l.initial.found l.initial.seen) (take l.name-index l.names))
     (g.C.Classes.world l.c) l.initial.asks l.asks (walked l.found l.seen)
