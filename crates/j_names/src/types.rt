@@ -199,20 +199,21 @@ pub(crate) fn type_meant<C: Classes>(
         Told (type_meant cx.now frames.now n.now) (C.world c.now) asks.old asks.new s) }
 {
     let top = top_around(cx);
+    let rows = cx.imports.as_slice();
     if let Some(s) = type_in_frames(alloc, top, n, frames, c, asks)? {
         return Ok(Some(s));
     }
     if let Some(s) = type_in_classes(alloc, top, n, cx.enclosing.as_slice(), c, asks)? {
         return Ok(Some(s));
     }
-    if let Some(s) = type_imported(cx.imports.as_slice(), n)? {
+    if let Some(s) = type_imported(rows, n)? {
         return Ok(Some(s));
     }
     let own = joined(alloc, &cx.package, n)?;
     if let Some(s) = type_at(top, own, c, asks)? {
         return Ok(Some(s));
     }
-    let s = type_on_demand(alloc, top, cx.imports.as_slice(), n, c, asks)?;
+    let s = type_on_demand(alloc, top, rows, n, c, asks)?;
     Ok(s)
 }
 

@@ -20,7 +20,7 @@ returns-in-Some-3 g c =
     c.top_around-top.ensures c.args.asks.now
     c.type_in_frames.new.asks (rw c.in_default.is at c.in_ok-s.ensures)
     c.type_in_classes.new.asks (rw (c.in_default-2.is, c.as_slice.ensures) at c.in_ok-s-2.ensures)
-    c.in-Some-3.s (rw (c.in-Some-3.is, c.as_slice-2.ensures) at c.in_ok-s-3.ensures)
+    c.in-Some-3.s (rw (c.in-Some-3.is, c.as_slice-rows.ensures) at c.in_ok-s-3.ensures)
 
 pub returns-in-Some-4 : goal.returns-in-Some-4
 returns-in-Some-4 g c =
@@ -28,7 +28,7 @@ returns-in-Some-4 g c =
     c.top_around-top.ensures c.args.asks.now
     c.type_in_frames.new.asks (rw c.in_default.is at c.in_ok-s.ensures)
     c.type_in_classes.new.asks (rw (c.in_default-2.is, c.as_slice.ensures) at c.in_ok-s-2.ensures)
-    (rw (c.in_default-3.is, c.as_slice-2.ensures) at c.in_ok-s-3.ensures)
+    (rw (c.in_default-3.is, c.as_slice-rows.ensures) at c.in_ok-s-3.ensures)
     c.type_at.new.asks c.in-Some-4.s (rw (c.in-Some-4.is, c.in_ok-own.ensures) at c.in_ok-s-4.ensures)
 
 pub returns : goal.returns
@@ -37,7 +37,7 @@ returns g c =
     c.top_around-top.ensures c.args.asks.now
     c.type_in_frames.new.asks (rw c.in_default.is at c.in_ok-s.ensures)
     c.type_in_classes.new.asks (rw (c.in_default-2.is, c.as_slice.ensures) at c.in_ok-s-2.ensures)
-    (rw (c.in_default-3.is, c.as_slice-2.ensures) at c.in_ok-s-3.ensures)
+    (rw (c.in_default-3.is, c.as_slice-rows.ensures) at c.in_ok-s-3.ensures)
     c.type_at.new.asks c.type_on_demand.new.asks c.in_ok-s-5.s
     (rw (c.in_default-4.is, c.in_ok-own.ensures) at c.in_ok-s-4.ensures)
-    (rw c.as_slice-3.ensures at c.in_ok-s-5.ensures)
+    (rw c.as_slice-rows.ensures at c.in_ok-s-5.ensures)
