@@ -1,0 +1,11 @@
+pub mod Looks
+pub mod Visits
+pub mod Outward
+pub mod Scoped
+pub mod Meant
+pub mod PackageRows
+pub mod Found
+pub mod Onward
+pub mod Variable
+pub mod Asked
+pub mod Calling

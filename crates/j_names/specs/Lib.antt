@@ -1,0 +1,6 @@
+pub mod Calls
+pub mod Dots
+pub mod Members
+pub mod Names
+pub mod Scopes
+pub mod Walk

@@ -36,16 +36,29 @@ pub struct LocalField {
 #[derive(Debug, Drop)]
 pub enum Frame {
     /// A local variable, a parameter, or another variable of a statement.
-    Local { name: Name, ty: JType },
+    Local {
+        name: Name,
+        ty: JType,
+    },
     /// A type parameter.
-    TypeParam { name: Name },
+    TypeParam {
+        name: Name,
+    },
     /// The body of a class that is declared by a qualified name.
-    Class { name: Name },
-    /// The body of a local class or, with the empty name, of an anonymous one.
+    Class {
+        name: Name,
+    },
+    /// The body of a local class or, with the empty name, of an anonymous one. A generic local class stands as three
+    /// scopes, outward: its body with the empty name, its type parameters, and its name alone (`Declared`).
     LocalClass {
         name: Name,
         supertype: Option<Name>,
         fields: Items<LocalField>,
         methods: Items<Name>,
+    },
+    /// A local class that was declared further out in a block, and whose body isn't around the place. It declares just
+    /// its name, as a type that isn't known.
+    Declared {
+        name: Name,
     },
 }

@@ -1,0 +1,31 @@
+use Rattle.std.specs.Option.{option_copied}
+use Rattle.dialogue.specs.ToldLaws.{told_map}
+use Rattle.j_names.specs.Calls.{some_of, static_methods}
+use Rattle.j_names.specs.Names.{static_owners}
+use Rattle.j_names.proofs.Calling.{in_frames, in_classes, in_owners}
+use Rattle.j_names.proofs.calls.call_meant.Goals as goal
+
+pub returns-in-Some : goal.returns-in-Some
+returns-in-Some g c =
+    in_frames (g.C.Classes.world c.args.c.now) c.args.cx.now c.args.frames.now c.args.n.now _ c.top_around-top.ensures
+    c.args.asks.now c.call_in_frames.new.asks c.in-Some.s (rw c.in-Some.is at c.in_ok-s.ensures)
+
+pub returns-in-Some-2 : goal.returns-in-Some-2
+returns-in-Some-2 g c =
+    in_classes (g.C.Classes.world c.args.c.now) c.args.cx.now c.args.frames.now c.args.n.now _
+    c.top_around-top.ensures
+    c.args.asks.now c.call_in_frames.new.asks (rw c.in_default.is at c.in_ok-s.ensures)
+    c.call_in_classes.new.asks c.in-Some-2.s (rw (c.in-Some-2.is, c.as_slice.ensures) at c.in_ok-s-2.ensures)
+
+pub returns : goal.returns
+returns g c =
+    rw c.some_of.ensures
+    (in_owners (g.C.Classes.world c.args.c.now) c.args.cx.now c.args.frames.now c.args.n.now _
+    c.top_around-top.ensures
+    c.args.asks.now c.call_in_frames.new.asks (rw c.in_default.is at c.in_ok-s.ensures)
+    c.call_in_classes.new.asks c.static_methods.new.asks (some_of c.in_ok-methods.methods)
+    (rw (c.in_default-2.is, c.as_slice.ensures) at c.in_ok-s-2.ensures)
+    (told_map (static_methods (option_copied c.top_around-top.result) c.args.n.now
+    (static_owners c.args.cx.now.imports c.args.n.now)) some_of (g.C.Classes.world c.args.c.now)
+    c.call_in_classes.new.asks c.static_methods.new.asks c.in_ok-methods.methods
+    (rw (c.as_slice-3.ensures, c.in_ok-owners.ensures, c.as_slice-2.ensures) at c.in_ok-methods.ensures)))

@@ -1,0 +1,20 @@
+use Rattle.std.specs.Option.{option_copied}
+use Rattle.j_names.specs.Names.{declared_local, inherited_field}
+use Rattle.j_names.proofs.Found.{rule_before, rule_behind}
+use Rattle.j_names.proofs.variables.variable_in_frame.Goals as goal
+
+pub returns-in-Some : goal.returns-in-Some
+returns-in-Some g c =
+    let n = c.args.n.now in
+    rw c.in-LocalClass.is (rule_before (g.C.Classes.world c.args.c.now) (declared_local c.in-LocalClass.fields n)
+    (inherited_field (option_copied c.args.top) n c.in-LocalClass.supertype) c.args.asks.now c.args.asks.now
+    c.in-Some.s (rw (c.in-Some.is, c.as_slice.ensures) at c.in_ok-s-in-LocalClass.ensures))
+
+pub returns-in_ok-found-in-LocalClass : goal.returns-in_ok-found-in-LocalClass
+returns-in_ok-found-in-LocalClass g c =
+    let n = c.args.n.now in
+    rw c.in-LocalClass.is (rule_behind (g.C.Classes.world c.args.c.now) (declared_local c.in-LocalClass.fields n)
+    (inherited_field (option_copied c.args.top) n c.in-LocalClass.supertype) c.args.asks.now
+    c.inherited_field.new.asks
+    c.in_ok-found-in-LocalClass.found (rw (c.in_default.is, c.as_slice.ensures) at c.in_ok-s-in-LocalClass.ensures)
+    c.in_ok-found-in-LocalClass.ensures)
