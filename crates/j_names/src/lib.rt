@@ -27,12 +27,14 @@
 
 mod called;
 mod calls;
+mod chains;
 mod context;
 mod creations;
 mod dots;
 mod frames;
 mod hiding;
 mod laws;
+mod link;
 mod meaning;
 mod members;
 mod methods;
