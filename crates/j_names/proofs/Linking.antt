@@ -1,6 +1,8 @@
 -- Links of one number: one more, one less, and the way back.
-use Rattle.std.proofs.Common.{◌≡◌, ◌∙◌, sym, ap, subst, refl, ℕ, List, [], ◌∷◌, ◌++◌, ◌+◌, ◌-◌, ◌<◌, ◌≤◌, ◌⊎◌, inl, inr}
-use Rattle.std.proofs.Common.{Bool, true, false, zero, suc, length, take, drop, get_or, set, filter, map, nat_eq, arith}
+use Rattle.std.proofs.Common.{◌≡◌, ◌∙◌, sym, ap, subst, refl, ℕ, List, [], ◌∷◌, ◌++◌, ◌+◌, ◌-◌, ◌<◌, ◌≤◌, ◌⊎◌, inl}
+use Rattle.std.proofs.Common.{inr}
+use Rattle.std.proofs.Common.{Bool, true, false, zero, suc, length, take, drop, get_or, set, filter, map, nat_eq}
+use Rattle.std.proofs.Common.{arith}
 use Rattle.std.proofs.Common.{eqb-true, length-append, if◌then◌else◌}
 use Rattle.std.proofs.Math.ListN.{get_or-append}
 use Rattle.std.proofs.Math.Seq.{take-append_seam, get_or-append_seam}
@@ -73,7 +75,8 @@ module _ (ls : List Link) (l : Link) where
   }
 
   module _ (n place : ℕ) (other : l.number ≡ n → ⊥) where
-    split : place ≤ length ls → filter (has_number n) (drop place (ls ++ l ∷ [])) ≡ filter (has_number n) (drop place ls) ++ []
+    split : place ≤ length ls → filter (has_number n) (drop place (ls ++ l ∷ [])) ≡ filter (has_number n)
+        (drop place ls) ++ []
     split le =
         ap (filter (has_number n)) (drop-append-le place ls (l ∷ []) le)
         ∙ filter-append (has_number n) (drop place ls) (l ∷ [])
@@ -95,7 +98,8 @@ module _ (ls : List Link) (l : Link) where
       where
         le : place ≤ length ls
         le = elim (lt_or_le (length ls) place) [
-          | inl k ↦ absurd (other (b.there (length ls) l (omega (arith, k, b.within, longer)) (sym (get_or-append_seam ls l [] l))))
+          | inl k ↦ absurd (other (b.there (length ls) l (omega (arith, k, b.within, longer))
+              (sym (get_or-append_seam ls l [] l))))
           | inr k ↦ k
         ]
 
@@ -154,7 +158,8 @@ module _ (ls : List Link) (hs : List ℕ) (c : IsChained ls hs) (l : Link) (know
       at_end : (at : ℕ) → length ls ≤ at → at < length (ls ++ l ∷ []) → at ≡ length ls
       at_end at k lt = omega (arith, k, lt, longer ls l)
 
-      it_is : (at : ℕ) (m : Link) → length ls ≤ at → at < length (ls ++ l ∷ []) → m ≡ get_or (ls ++ l ∷ []) at m → m ≡ l
+      it_is : (at : ℕ) (m : Link) → length ls ≤ at → at < length (ls ++ l ∷ []) → m ≡ get_or (ls ++ l ∷ []) at m
+          → m ≡ l
       it_is at m k lt is =
           is ∙ ap (λ i. get_or (ls ++ l ∷ []) i m) (omega (arith, k, lt, longer ls l)) ∙ get_or-append_seam ls l [] m
 
@@ -164,7 +169,8 @@ module _ (ls : List Link) (hs : List ℕ) (c : IsChained ls hs) (l : Link) (know
         | inl k ↦ c.of_numbers at m k (is ∙ get_or-append ls (l ∷ []) m at k)
         | inr k ↦
             subst (λ x. x.number < length hs)
-            (sym (is ∙ ap (λ i. get_or (ls ++ l ∷ []) i m) (omega (arith, k, lt, longer ls l)) ∙ get_or-append_seam ls l [] m))
+            (sym (is ∙ ap (λ i. get_or (ls ++ l ∷ []) i m) (omega (arith, k, lt, longer ls l))
+            ∙ get_or-append_seam ls l [] m))
             known
       ]
 

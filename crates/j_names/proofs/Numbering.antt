@@ -1,6 +1,8 @@
 -- Scopes and their numbers.
-use Rattle.std.proofs.Common.{◌≡◌, ◌∙◌, sym, ap, subst, refl, ℕ, List, [], ◌∷◌, ◌++◌, ◌-◌, Option, None, Some, Bool, true}
-use Rattle.std.proofs.Common.{◌⊎◌, ◌≤◌, inl, inr, arith, cond, false, zero, suc, length, take, drop, filter, nat_eq, eq-eqb, if◌then◌else◌}
+use Rattle.std.proofs.Common.{◌≡◌, ◌∙◌, sym, ap, subst, refl, ℕ, List, [], ◌∷◌, ◌++◌, ◌-◌, Option, None, Some, Bool}
+use Rattle.std.proofs.Common.{true}
+use Rattle.std.proofs.Common.{◌⊎◌, ◌≤◌, inl, inr, arith, cond, false, zero, suc, length, take, drop, filter, nat_eq}
+use Rattle.std.proofs.Common.{eq-eqb, if◌then◌else◌}
 use Rattle.std.proofs.Common.{length-append}
 use Rattle.std.proofs.Math.Seq.{take-append_seam}
 use Rattle.jtypes.specs.World.{name_eq}
@@ -115,7 +117,8 @@ module _ (f : Numbers) (n : List ℕ) where
   none_matters (x ∷ xs) [] a z h = absurd a
 
 -- a new name leaves the numbers of the others
-kept_by_test : (f : Numbers) (name n : List ℕ) (i v : ℕ) (b : Bool) → name_eq name n ≡ b → f name ≡ None → f n ≡ Some i
+kept_by_test : (f : Numbers) (name n : List ℕ) (i v : ℕ) (b : Bool) → name_eq name n ≡ b → f name ≡ None
+    → f n ≡ Some i
     → cond b (Some v) (f n) ≡ Some i
 kept_by_test f name n i v true e none h = no_some (sym (subst (λ m. f m ≡ None) ((names_decide name n).0 e) none) ∙ h)
   where

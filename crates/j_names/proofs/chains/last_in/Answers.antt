@@ -12,5 +12,6 @@ loop-at-preserved c =
     let at = c.loop-at.at in
     let nothing : Link = record { number = 0; before = 0 } in
     let l = get_or ls (at - 1) nothing in
-    one_back c.args.number c.args.end ls c.args.heads.now c.requires.chained at c.loop-at.invariant c.loop-at-test.true l
+    one_back c.args.number c.args.end ls c.args.heads.now c.requires.chained at c.loop-at.invariant
+    c.loop-at-test.true l
     (at_any ls (at - 1) nothing l (omega (arith, c.loop-at.invariant.within, c.loop-at-test.true)))

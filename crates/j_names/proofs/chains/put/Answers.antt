@@ -12,7 +12,8 @@ returns-clause-chained c =
     let l : Link = record { number = c.args.number; before = c.index-before.result.now } in
     let long : length c.as_slice.result.now ≡ length ls + 1 =
     ap length (c.as_slice.ensures.value ∙ c.in_ok-push.ensures.items) ∙ length-append ls (l ∷ []) in
-    subst (λ xs. IsChained xs (slice_set hs c.args.number (length c.as_slice.result.now))) (sym c.in_ok-push.ensures.items)
+    subst (λ xs. IsChained xs (slice_set hs c.args.number (length c.as_slice.result.now)))
+    (sym c.in_ok-push.ensures.items)
     (subst (λ k. IsChained (ls ++ l ∷ []) (slice_set hs c.args.number k)) (sym long)
     (chained_put ls hs c.requires.chained l c.requires.known
     c.index-before.ensures))

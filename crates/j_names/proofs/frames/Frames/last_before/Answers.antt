@@ -38,7 +38,8 @@ last_before-bodies-requires c =
       arith,
       c.requires,
       ap length c.self.view_is,
-      numbered_length (get name_eq c.self.inside.numbers) c.self.inside.items.items c.self.inside.chains c.self.invariant,
+      numbered_length (get name_eq c.self.inside.numbers) c.self.inside.items.items c.self.inside.chains
+          c.self.invariant,
     )
 
 pub last_named-named-requires : goal.last_named-named-requires
@@ -47,5 +48,6 @@ last_named-named-requires c =
       arith,
       c.requires,
       ap length c.self.view_is,
-      numbered_length (get name_eq c.self.inside.numbers) c.self.inside.items.items c.self.inside.chains c.self.invariant,
+      numbered_length (get name_eq c.self.inside.numbers) c.self.inside.items.items c.self.inside.chains
+          c.self.invariant,
     )
