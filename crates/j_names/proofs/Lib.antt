@@ -9,3 +9,5 @@ pub mod Onward
 pub mod Variable
 pub mod Asked
 pub mod Calling
+pub mod Linking
+pub mod Numbering

@@ -22,17 +22,19 @@
 //!
 //! Read `specs/Walk.antt` first (the walk over a class and what it inherits), then `Members` (what walks look for, and
 //! which members count), `Names` (simple names, from the innermost scope outward), `Dots` and `Calls`. `Scopes` says
-//! which scopes a look-up by name may leave out.
+//! which scopes a look-up by name may leave out, and `Indexed` how it does without going through them.
 #![tactic(auto)]
 
 mod called;
 mod calls;
+mod chains;
 mod context;
 mod creations;
 mod dots;
 mod frames;
 mod hiding;
 mod laws;
+mod link;
 mod meaning;
 mod members;
 mod methods;
