@@ -1,0 +1,266 @@
+// The declared types of a file.
+ghost use Rattle.std.specs.Prelude.{◌≡◌, ◌<◌, ◌++◌, List, ℕ, length, IfOk, OnOk};
+ghost use Rattle.rw_base.specs.Arena.{end_of, kind_of};
+ghost use Rattle.class_table.specs.Words.{parts_at};
+ghost use Rattle.class_table.specs.Members.{no_mods, fields_in, methods_in};
+ghost use Rattle.class_table.specs.Declarations.{superclass, interfaces, before_interfaces, declared, class_kind};
+ghost use Rattle.class_table.specs.Declarations.{has_mods, holds_types, private_inside, around_in, node_types};
+ghost use Rattle.class_table.specs.Declarations.{types_in, outermost, skeleton_of, qualified};
+
+use crate::around::{Around, copied_context, inside, joined, top_of};
+use crate::file::{file_context, package_name};
+use crate::kinds::{ANNOTATION_TYPE, BODY, CLASS, ENUM, INTERFACE, MEMBER, TYPE_DECL};
+use crate::members::{Members, add_members};
+use crate::modifiers::{Mods, says};
+use crate::parts::node_behind;
+use crate::types::{listed, name_in, type_at, type_params};
+use crate::written::{DeclaredType, Skeleton, Written};
+use java_lex::class::{EXTENDS, IMPLEMENTS, PRIVATE};
+use jtypes::{ClassKind, Name, Names, SharedList};
+use rw_base::{Mem, NodeId, Part, Tree};
+use std::alloc::Global;
+
+fn superclass(
+    alloc: Global,
+    tree: &Tree,
+    bytes: &[u8],
+    n: NodeId,
+    kind: ClassKind,
+    names: &mut Names,
+) -> Mem<Option<Written>>
+    requires node { n.0 < length tree.now.nodes }
+    requires bytes { length bytes.now ≡ end_of tree.now }
+    ensures { IfOk result (λ w. w ≡ superclass kind (parts_at tree.now bytes.now n.0)) }
+{
+    match kind {
+        ClassKind::Class => type_at(alloc, tree, bytes, node_behind(tree, n, EXTENDS), names),
+        ClassKind::Interface => Ok(None),
+        ClassKind::Enum => Ok(None),
+        ClassKind::Annotation => Ok(None),
+    }
+}
+
+// The word before the superinterfaces.
+fn before_interfaces(kind: ClassKind) -> u16
+    ensures { result ≡ before_interfaces kind }
+{
+    match kind {
+        ClassKind::Interface => EXTENDS,
+        ClassKind::Class => IMPLEMENTS,
+        ClassKind::Enum => IMPLEMENTS,
+        ClassKind::Annotation => IMPLEMENTS,
+    }
+}
+
+fn interfaces(
+    alloc: Global,
+    tree: &Tree,
+    bytes: &[u8],
+    n: NodeId,
+    kind: ClassKind,
+    names: &mut Names,
+) -> Mem<SharedList<Written>>
+    requires node { n.0 < length tree.now.nodes }
+    requires bytes { length bytes.now ≡ end_of tree.now }
+    ensures { IfOk result (λ list. list ≡ interfaces kind (parts_at tree.now bytes.now n.0)) }
+{
+    listed(alloc, tree, bytes, node_behind(tree, n, before_interfaces(kind)), names)
+}
+
+// The members of a type.
+fn members_of(
+    alloc: Global,
+    tree: &Tree,
+    bytes: &[u8],
+    n: NodeId,
+    kind: ClassKind,
+    names: &mut Names,
+) -> Mem<Members>
+    requires node { n.0 < length tree.now.nodes }
+    requires bytes { length bytes.now ≡ end_of tree.now }
+    ensures fields { let ps = parts_at tree.now bytes.now n.0 in
+        IfOk result (λ all. all.fields.items ≡ fields_in kind no_mods ps) }
+    ensures methods { let ps = parts_at tree.now bytes.now n.0 in
+        IfOk result (λ all. all.methods.items ≡ methods_in no_mods ps) }
+{
+    let mut all = Members {
+        fields: Vec::new(alloc),
+        methods: Vec::new(alloc),
+    };
+    let none = Mods {
+        is_static: false,
+        is_private: false,
+    };
+    add_members(alloc, tree, bytes, n, kind, none, names, &mut all)?;
+    Ok(all)
+}
+
+// A type by its node.
+fn declared(
+    alloc: Global,
+    tree: &Tree,
+    bytes: &[u8],
+    n: NodeId,
+    kind: ClassKind,
+    around: &Around,
+    is_private: bool,
+    names: &mut Names,
+) -> Mem<DeclaredType>
+    requires node { n.0 < length tree.now.nodes }
+    requires bytes { length bytes.now ≡ end_of tree.now }
+    ensures { IfOk result (λ d. d ≡ declared around.now is_private kind (parts_at tree.now bytes.now n.0)) }
+{
+    let simple = name_in(alloc, tree, bytes, n, names)?;
+    let name = joined(alloc, &around.within, &simple, names)?;
+    let top = top_of(around, &name)?;
+    let Members { fields, methods } = members_of(alloc, tree, bytes, n, kind, names)?;
+    Ok(DeclaredType {
+        name,
+        kind,
+        top,
+        is_private,
+        cx: copied_context(&around.cx)?,
+        around: around.scopes.copy()?,
+        type_params: type_params(alloc, tree, bytes, n, names)?,
+        superclass: superclass(alloc, tree, bytes, n, kind, names)?,
+        interfaces: interfaces(alloc, tree, bytes, n, kind, names)?,
+        fields: SharedList::new(alloc, fields)?,
+        methods: SharedList::new(alloc, methods)?,
+    })
+}
+
+// The kind of type that a node of a kind declares.
+fn class_kind(kind: u16) -> Option<ClassKind>
+    ensures { result ≡ class_kind kind }
+{
+    if kind == CLASS {
+        Some(ClassKind::Class)
+    } else if kind == INTERFACE {
+        Some(ClassKind::Interface)
+    } else if kind == ENUM {
+        Some(ClassKind::Enum)
+    } else if kind == ANNOTATION_TYPE {
+        Some(ClassKind::Annotation)
+    } else {
+        None
+    }
+}
+
+fn has_mods(kind: u16) -> bool
+    ensures { result ≡ has_mods kind }
+{
+    kind == TYPE_DECL || kind == MEMBER
+}
+
+fn holds_types(kind: u16) -> bool
+    ensures { result ≡ holds_types kind }
+{
+    has_mods(kind) || kind == BODY
+}
+
+// Whether the types right inside a node are private.
+fn private_inside(tree: &Tree, n: NodeId) -> bool
+    requires { n.0 < length tree.now.nodes }
+    ensures { (bytes : List ℕ) →
+        result ≡ private_inside (kind_of tree.now.nodes n.0) (parts_at tree.now bytes n.0) }
+{
+    has_mods(tree.kind(n)) && says(tree, n, PRIVATE)
+}
+
+// Appends the declared types among a node's parts.
+#[cycle(types)]
+fn add_types(
+    alloc: Global,
+    tree: &Tree,
+    bytes: &[u8],
+    n: NodeId,
+    around: &Around,
+    is_private: bool,
+    names: &mut Names,
+    out: &mut Vec<DeclaredType>,
+) -> Mem<()>
+    requires node { n.0 < length tree.now.nodes }
+    requires bytes { length bytes.now ≡ end_of tree.now }
+    ensures { let more = types_in around.now is_private (parts_at tree.now bytes.now n.0) in
+        OnOk result (out.new.items ≡ out.old.items ++ more) }
+{
+    let parts = tree.parts(n);
+    for part in parts {
+        match part {
+            Part::Leaf(_) => {}
+            Part::Node(m) => add_node(alloc, tree, bytes, n, *m, around, is_private, names, out)?,
+        }
+    }
+    Ok(())
+}
+
+// Appends those of a part.
+#[cycle(types)]
+fn add_node(
+    alloc: Global,
+    tree: &Tree,
+    bytes: &[u8],
+    n: NodeId,
+    m: NodeId,
+    around: &Around,
+    is_private: bool,
+    names: &mut Names,
+    out: &mut Vec<DeclaredType>,
+) -> Mem<()>
+    requires node { n.0 < length tree.now.nodes }
+    requires part { m.0 < n.0 }
+    requires bytes { length bytes.now ≡ end_of tree.now }
+    ensures { let ps = parts_at tree.now bytes.now m.0 in let k = kind_of tree.now.nodes m.0 in
+        let inner = types_in (around_in around.now (class_kind k) ps) (private_inside k ps) ps in
+        let more = node_types around.now is_private k (class_kind k) ps inner in
+        OnOk result (out.new.items ≡ out.old.items ++ more) }
+{
+    let inside_private = private_inside(tree, m);
+    match class_kind(tree.kind(m)) {
+        Some(kind) => {
+            let row = declared(alloc, tree, bytes, m, kind, around, is_private, names)?;
+            let inner = inside(alloc, around, &row.name, &row.type_params)?;
+            out.push(row)?;
+            add_types(alloc, tree, bytes, m, &inner, inside_private, names, out)?;
+            Ok(())
+        }
+        None => {
+            if holds_types(tree.kind(m)) {
+                add_types(alloc, tree, bytes, m, around, inside_private, names, out)?;
+            }
+            Ok(())
+        }
+    }
+}
+
+// The place of the types of a file.
+fn outermost(alloc: Global, tree: &Tree, bytes: &[u8], root: NodeId, names: &mut Names) -> Mem<Around>
+    requires node { root.0 < length tree.now.nodes }
+    requires bytes { length bytes.now ≡ end_of tree.now }
+    ensures { IfOk result (λ a. a ≡ outermost (parts_at tree.now bytes.now root.0)) }
+{
+    let cx = file_context(alloc, tree, bytes, root, names)?;
+    Ok(Around {
+        within: cx.package.copy()?,
+        cx,
+        top: None,
+        scopes: SharedList::empty(),
+    })
+}
+
+/// The skeleton of a Java file: its declared types as written, in the order of the text (JLS 7.6, 8.1, 8.5, 8.9, 9.1,
+/// 9.5, 9.6). `bytes` are those that `tree` was read from, and `names` keeps the names. It goes over the tree of the
+/// declarations and enters no body of a method. Refused where memory is wanting.
+#[tactic(auto, unfolding(crate::specs::Declarations::skeleton_of))]
+pub fn skeleton(alloc: Global, tree: &Tree, bytes: &[u8], names: &mut Names) -> Mem<Skeleton>
+    requires bytes { length bytes.now ≡ end_of tree.now }
+    ensures types { IfOk result (λ s. s.types ≡ skeleton_of (parts_at tree.now bytes.now tree.now.root)) }
+{
+    let root = tree.root();
+    let around = outermost(alloc, tree, bytes, root, names)?;
+    let mut types = Vec::new(alloc);
+    add_types(alloc, tree, bytes, root, &around, false, names, &mut types)?;
+    Ok(Skeleton {
+        types: SharedList::new(alloc, types)?,
+    })
+}
