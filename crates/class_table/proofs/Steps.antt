@@ -1,5 +1,6 @@
 -- One part further: what the trees of the parts from the k-th on begin with.
-use Rattle.std.proofs.Common.{◌≡◌, ◌≢◌, ◌==◌, ℕ, ◌+◌, ◌<◌, ◌≤◌, List, length, get_or, drop, ap, if◌then◌else◌}
+use Rattle.std.proofs.Common.{◌≡◌, ◌≢◌, ◌==◌, ℕ, ◌+◌, ◌<◌, ◌≤◌, List, length, get_or, drop, ap, Bool, true, false}
+use Rattle.std.proofs.Common.{if◌then◌else◌}
 use Rattle.std.proofs.lemmas.Bool.{eq-eqb, ne_eqb}
 use Rattle.rw_base.specs.declared.tree.NodeId.{NodeId}
 use Rattle.rw_base.specs.declared.tree.Part.{Part}
@@ -38,3 +39,9 @@ when x y a c e = ap (λ b. if b then x else y) (eq-eqb a c e)
 
 pub unless : {A : Type 0} (x y : A) (a c : ℕ) → a ≢ c → (if a == c then x else y) ≡ y
 unless x y a c e = ap (λ b. if b then x else y) (ne_eqb a c e)
+
+pub choose : {A : Type 0} {b : Bool} (x y : A) → b ≡ true → (if b then x else y) ≡ x
+choose x y e = ap (λ b. if b then x else y) e
+
+pub otherwise : {A : Type 0} {b : Bool} (x y : A) → b ≡ false → (if b then x else y) ≡ y
+otherwise x y e = ap (λ b. if b then x else y) e

@@ -7,7 +7,7 @@ use Rattle.j_names.specs.declared.context.UnitContext.{UnitContext}
 use Rattle.class_table.specs.declared.kinds.TheConstants.{PACKAGE, QUALIFIED_NAME, IMPORT}
 use Rattle.class_table.specs.declared.file.ImportName.{ImportName}
 use Rattle.class_table.specs.Words.{Parts}
-use Rattle.class_table.specs.Finding.{Node, has, name_in, node_in}
+use Rattle.class_table.specs.Finding.{Node, has, name_in, node_in, of_nodes}
 
 -- the texts of the words, one behind another: those of a qualified name with its dots
 abbrev pub text_in : Parts → List ℕ
@@ -40,10 +40,11 @@ rows_of is_static (Some i) = record { name = i.name; is_static = is_static; on_d
 abbrev pub import_of : Parts → List ImportRow
 import_of ps = rows_of (has STATIC ps) (imported false (name_in ps) ps)
 
+abbrev pub import_node : ℕ → Parts → List ImportRow
+import_node k kids = if k == IMPORT then import_of kids else []
+
 abbrev pub imports_in : Parts → List ImportRow
-imports_in none = []
-imports_in (leaf w f) = imports_in f
-imports_in (node _ k kids f) = (if k == IMPORT then import_of kids else []) ++ imports_in f
+imports_in ps = of_nodes import_node ps
 
 -- the context of a file by the parts of its root
 abbrev pub file_context : Parts → UnitContext

@@ -59,6 +59,12 @@ count_in c none = 0
 count_in c (leaf w f) = count_in c f
 count_in c (node _ k kids f) = (if k == c then 1 else 0) + count_in c f
 
+-- what is taken of each node, by its kind and its parts
+abbrev pub of_nodes : {A : Type 0} → (ℕ → Parts → List A) → Parts → List A
+of_nodes g none = []
+of_nodes g (leaf w f) = of_nodes g f
+of_nodes g (node _ k kids f) = g k kids ++ of_nodes g f
+
 -- what the numbers stand for that the code finds
 abbrev pub word_at : Arena → List ℕ → Option ℕ → Option Word
 word_at t bytes None = None

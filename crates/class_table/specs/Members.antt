@@ -15,16 +15,19 @@ use Rattle.class_table.specs.declared.written.WrittenField.{WrittenField}
 use Rattle.class_table.specs.declared.written.WrittenMethod.{WrittenMethod}
 use Rattle.class_table.specs.declared.written.WrittenParam.{WrittenParam}
 use Rattle.class_table.specs.Words.{Parts}
-use Rattle.class_table.specs.Finding.{Node, has, name_in, node_in, count_in}
+use Rattle.class_table.specs.Finding.{Node, has, name_in, node_in, count_in, of_nodes}
 use Rattle.class_table.specs.TypesWritten.{void, type_of, type_params}
 
 -- ---- modifiers (JLS 8.1.1, 8.3.1, 8.4.3)
 
--- whether a modifier is this word
+-- whether a node is a modifier that is this word, and whether one is
+abbrev pub is_modifier : ℕ → ℕ → Parts → Bool
+is_modifier c k kids = k == MODIFIER && has c kids
+
 abbrev pub says : ℕ → Parts → Bool
 says c none = false
 says c (leaf w f) = says c f
-says c (node _ k kids f) = (k == MODIFIER && has c kids) || says c f
+says c (node _ k kids f) = is_modifier c k kids || says c f
 
 abbrev pub no_mods : Mods
 no_mods = record { is_static = false; is_private = false }
@@ -59,10 +62,11 @@ dims_behind ps = count_in DIMENSIONS ps + (if has ELLIPSIS ps then 1 else 0)
 abbrev pub param : Parts → Written
 param ps = type_of (dims_behind ps) ps
 
+abbrev pub param_node : ℕ → Parts → List Written
+param_node k kids = if k == PARAM then param kids ∷ [] else []
+
 abbrev pub params_in : Parts → List Written
-params_in none = []
-params_in (leaf w f) = params_in f
-params_in (node _ k kids f) = (if k == PARAM then param kids ∷ [] else []) ++ params_in f
+params_in ps = of_nodes param_node ps
 
 -- whether the last parameter has `...`; `last` says it of the one before
 abbrev pub varargs_in : Bool → Parts → Bool
@@ -109,12 +113,12 @@ abbrev pub field : Mods → List ℕ → Written → WrittenField
 field m name ty = record { name = name; ty = ty; is_static = m.is_static; is_private = m.is_private }
 
 -- the brackets behind a name are dimensions of its type (JLS 10.2); `at` are the parts that the type stands among
+abbrev pub declarator_node : Mods → Parts → ℕ → Parts → List WrittenField
+declarator_node m at k kids =
+    if k == DECLARATOR then field m (name_in kids) (type_of (count_in DIMENSIONS kids) at) ∷ [] else []
+
 abbrev pub declarators_in : Mods → Parts → Parts → List WrittenField
-declarators_in m at none = []
-declarators_in m at (leaf w f) = declarators_in m at f
-declarators_in m at (node _ k kids f) =
-    (if k == DECLARATOR then field m (name_in kids) (type_of (count_in DIMENSIONS kids) at) ∷ [] else [])
-    ++ declarators_in m at f
+declarators_in m at ps = of_nodes (declarator_node m at) ps
 
 abbrev pub fields_by : Mods → Parts → Option Node → List WrittenField
 fields_by m ps None = []

@@ -12,7 +12,7 @@ use Rattle.class_table.specs.declared.written.Base.TheVariants as base
 use Rattle.class_table.specs.declared.written.Written.{Written}
 use Rattle.class_table.specs.declared.written.WrittenParam.{WrittenParam}
 use Rattle.class_table.specs.Words.{Parts}
-use Rattle.class_table.specs.Finding.{Node, name_in, node_in, type_in, is_type, count_in}
+use Rattle.class_table.specs.Finding.{Node, name_in, node_in, type_in, is_type, count_in, of_nodes}
 
 -- ---- bases
 
@@ -67,10 +67,11 @@ abbrev pub type_of : ℕ → Parts → Written
 type_of more ps = written_or_void more (type_in ps)
 
 -- all types
+abbrev pub type_node : ℕ → Parts → List Written
+type_node k kids = if is_type k then written 0 (k, kids) ∷ [] else []
+
 abbrev pub written_types : Parts → List Written
-written_types none = []
-written_types (leaf w f) = written_types f
-written_types (node _ k kids f) = (if is_type k then written 0 (k, kids) ∷ [] else []) ++ written_types f
+written_types ps = of_nodes type_node ps
 
 -- the types of a list, which stands alone where it has one
 abbrev pub listed : Option Node → List Written
@@ -87,10 +88,11 @@ type_at (Some n) = Some (written 0 n)
 abbrev pub type_param : Parts → WrittenParam
 type_param ps = record { name = name_in ps; bound = type_at (type_in ps) }
 
+abbrev pub type_param_node : ℕ → Parts → List WrittenParam
+type_param_node k kids = if k == TYPE_PARAM then type_param kids ∷ [] else []
+
 abbrev pub each_type_param : Parts → List WrittenParam
-each_type_param none = []
-each_type_param (leaf w f) = each_type_param f
-each_type_param (node _ k kids f) = (if k == TYPE_PARAM then type_param kids ∷ [] else []) ++ each_type_param f
+each_type_param ps = of_nodes type_param_node ps
 
 abbrev pub type_params_of : Option Node → List WrittenParam
 type_params_of None = []

@@ -52,15 +52,29 @@ fn names_of(alloc: Global, params: &[WrittenParam]) -> Mem<SharedList<Name>>
     SharedList::new(alloc, out)
 }
 
+fn copied_class(class: &EnclosingClass) -> Mem<EnclosingClass>
+    ensures { IfOk result (λ copy. copy ≡ class.now) }
+{
+    Ok(EnclosingClass {
+        name: class.name.copy()?,
+        type_params: class.type_params.copy()?,
+    })
+}
+
+fn copied_scope(scope: &ScopeParams) -> Mem<ScopeParams>
+    ensures { IfOk result (λ copy. copy ≡ scope.now) }
+{
+    Ok(ScopeParams {
+        params: scope.params.copy()?,
+    })
+}
+
 fn copied_classes(alloc: Global, classes: &[EnclosingClass]) -> Mem<Vec<EnclosingClass>>
     ensures { IfOk result (λ v. v.items ≡ classes.now) }
 {
     let mut out = Vec::new(alloc);
     for class in classes {
-        out.push(EnclosingClass {
-            name: class.name.copy()?,
-            type_params: class.type_params.copy()?,
-        })?;
+        out.push(copied_class(class)?)?;
     }
     Ok(out)
 }
@@ -70,9 +84,7 @@ fn copied_scopes(alloc: Global, scopes: &[ScopeParams]) -> Mem<Vec<ScopeParams>>
 {
     let mut out = Vec::new(alloc);
     for scope in scopes {
-        out.push(ScopeParams {
-            params: scope.params.copy()?,
-        })?;
+        out.push(copied_scope(scope)?)?;
     }
     Ok(out)
 }

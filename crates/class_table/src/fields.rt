@@ -66,9 +66,12 @@ fn add_declarators(
 {
     let parts = tree.parts(n);
     for part in parts {
-        if let Part::Node(m) = part {
-            if tree.kind(*m) == DECLARATOR {
-                out.push(field(alloc, tree, bytes, *m, *m, at, mods, names)?)?;
+        match part {
+            Part::Leaf(_) => {}
+            Part::Node(m) => {
+                if tree.kind(*m) == DECLARATOR {
+                    out.push(field(alloc, tree, bytes, *m, *m, at, mods, names)?)?;
+                }
             }
         }
     }

@@ -1,10 +1,10 @@
 // The package and the imports of a file.
 ghost use Rattle.std.specs.Prelude.{◌≡◌, ◌<◌, ◌++◌, length, IfOk, OnOk, IfSome, false};
 ghost use Rattle.std.specs.Option.{option_to_list};
-ghost use Rattle.rw_base.specs.Arena.{end_of};
+ghost use Rattle.rw_base.specs.Arena.{end_of, kind_of};
 ghost use Rattle.class_table.specs.Words.{parts_at};
 ghost use Rattle.class_table.specs.Finding.{node_at, name_in};
-ghost use Rattle.class_table.specs.Files.{text_in, parts_or_none, package_name, imported, rows_of, import_of};
+ghost use Rattle.class_table.specs.Files.{text_in, parts_or_none, package_name, imported, rows_of, import_of, import_node};
 ghost use Rattle.class_table.specs.Files.{imports_in, file_context};
 
 use crate::kinds::{IMPORT, PACKAGE, QUALIFIED_NAME};
@@ -30,8 +30,11 @@ fn add_text(tree: &Tree, bytes: &[u8], n: NodeId, out: &mut Vec<u8>) -> Mem<()>
 {
     let parts = tree.parts(n);
     for part in parts {
-        if let Part::Leaf(i) = part {
-            out.extend_from_slice(tree.text(bytes, *i))?;
+        match part {
+            Part::Node(_) => {}
+            Part::Leaf(i) => {
+                out.extend_from_slice(tree.text(bytes, *i))?;
+            }
         }
     }
     Ok(())
@@ -78,14 +81,17 @@ fn imported(alloc: Global, tree: &Tree, bytes: &[u8], n: NodeId, first: Vec<u8>)
     let mut name = first;
     let mut on_demand = false;
     for part in parts {
-        if let Part::Node(m) = part {
-            if on_demand {
-                return Ok(None);
-            }
-            if has(tree, *m, STAR) {
-                on_demand = true;
-            } else {
-                add_text(tree, bytes, *m, &mut name)?;
+        match part {
+            Part::Leaf(_) => {}
+            Part::Node(m) => {
+                if on_demand {
+                    return Ok(None);
+                }
+                if has(tree, *m, STAR) {
+                    on_demand = true;
+                } else {
+                    add_text(tree, bytes, *m, &mut name)?;
+                }
             }
         }
     }
@@ -112,6 +118,32 @@ fn import_of(alloc: Global, tree: &Tree, bytes: &[u8], n: NodeId, names: &mut Na
     }
 }
 
+// Appends the import that a node is, if it is one.
+fn add_import(
+    alloc: Global,
+    tree: &Tree,
+    bytes: &[u8],
+    n: NodeId,
+    names: &mut Names,
+    out: &mut Vec<ImportRow>,
+) -> Mem<()>
+    requires node { n.0 < length tree.now.nodes }
+    requires bytes { length bytes.now ≡ end_of tree.now }
+    ensures { let t = tree.now in let more = import_node (kind_of t.nodes n.0) (parts_at t bytes.now n.0) in
+        OnOk result (out.new.items ≡ out.old.items ++ more) }
+{
+    if tree.kind(n) != IMPORT {
+        return Ok(());
+    }
+    match import_of(alloc, tree, bytes, n, names)? {
+        None => Ok(()),
+        Some(row) => {
+            out.push(row)?;
+            Ok(())
+        }
+    }
+}
+
 fn imports_in(alloc: Global, tree: &Tree, bytes: &[u8], n: NodeId, names: &mut Names) -> Mem<Vec<ImportRow>>
     requires node { n.0 < length tree.now.nodes }
     requires bytes { length bytes.now ≡ end_of tree.now }
@@ -120,12 +152,9 @@ fn imports_in(alloc: Global, tree: &Tree, bytes: &[u8], n: NodeId, names: &mut N
     let parts = tree.parts(n);
     let mut out = Vec::new(alloc);
     for part in parts {
-        if let Part::Node(m) = part {
-            if tree.kind(*m) == IMPORT {
-                if let Some(row) = import_of(alloc, tree, bytes, *m, names)? {
-                    out.push(row)?;
-                }
-            }
+        match part {
+            Part::Leaf(_) => {}
+            Part::Node(m) => add_import(alloc, tree, bytes, *m, names, &mut out)?,
         }
     }
     Ok(out)

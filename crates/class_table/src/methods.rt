@@ -75,9 +75,12 @@ fn params_in(alloc: Global, tree: &Tree, bytes: &[u8], n: NodeId, names: &mut Na
     let parts = tree.parts(n);
     let mut out = Vec::new(alloc);
     for part in parts {
-        if let Part::Node(m) = part {
-            if tree.kind(*m) == PARAM {
-                out.push(param(alloc, tree, bytes, *m, names)?)?;
+        match part {
+            Part::Leaf(_) => {}
+            Part::Node(m) => {
+                if tree.kind(*m) == PARAM {
+                    out.push(param(alloc, tree, bytes, *m, names)?)?;
+                }
             }
         }
     }
@@ -105,6 +108,7 @@ fn varargs_in(tree: &Tree, n: NodeId) -> bool
 }
 
 // The name of a method, or that of constructors.
+#[tactic(auto, unfolding(crate::specs::Members::constructor_name))]
 fn method_name(
     alloc: Global,
     tree: &Tree,

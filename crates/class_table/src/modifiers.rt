@@ -1,7 +1,8 @@
 // The modifiers of a declaration that the skeleton keeps.
 ghost use Rattle.std.specs.Prelude.{◌≡◌, ◌<◌, List, ℕ, length};
+ghost use Rattle.rw_base.specs.Arena.{kind_of};
 ghost use Rattle.class_table.specs.Words.{parts_at};
-ghost use Rattle.class_table.specs.Members.{says, mods_in, static_in};
+ghost use Rattle.class_table.specs.Members.{is_modifier, says, mods_in, static_in};
 
 use crate::kinds::MODIFIER;
 use crate::parts::has;
@@ -16,6 +17,15 @@ pub(crate) struct Mods {
     pub is_private: bool,
 }
 
+// Whether a node is a modifier that is this word.
+fn is_modifier(tree: &Tree, n: NodeId, class: u16) -> bool
+    requires { n.0 < length tree.now.nodes }
+    ensures { (bytes : List ℕ) →
+        result ≡ is_modifier class (kind_of tree.now.nodes n.0) (parts_at tree.now bytes n.0) }
+{
+    tree.kind(n) == MODIFIER && has(tree, n, class)
+}
+
 // Whether a modifier is this word.
 pub(crate) fn says(tree: &Tree, n: NodeId, class: u16) -> bool
     requires { n.0 < length tree.now.nodes }
@@ -26,7 +36,7 @@ pub(crate) fn says(tree: &Tree, n: NodeId, class: u16) -> bool
         match part {
             Part::Leaf(_) => {}
             Part::Node(m) => {
-                if tree.kind(*m) == MODIFIER && has(tree, *m, class) {
+                if is_modifier(tree, *m, class) {
                     return true;
                 }
             }

@@ -1,11 +1,11 @@
 // Types as they are written, and type parameters.
-ghost use Rattle.std.specs.Prelude.{◌≡◌, ◌+◌, ◌<◌, ◌≤◌, ◌++◌, ◌^◌, length, drop, IfOk, OnOk};
-ghost use Rattle.std.specs.Option.{option_copied};
+ghost use Rattle.std.specs.Prelude.{◌≡◌, ◌+◌, ◌<◌, ◌≤◌, ◌++◌, ◌^◌, length, drop, IfOk, IfSome};
 ghost use Rattle.rw_base.specs.Arena.{end_of, parts_of, kind_of};
 ghost use Rattle.class_table.specs.Words.{parts_at, trees_of};
 ghost use Rattle.class_table.specs.Finding.{name_in, node_at, is_type};
 ghost use Rattle.class_table.specs.TypesWritten.{prim_named, names_in, named, base_of, written, type_of, written_types};
-ghost use Rattle.class_table.specs.TypesWritten.{listed, type_param, each_type_param, type_params};
+ghost use Rattle.class_table.specs.TypesWritten.{type_at, listed, type_param, each_type_param};
+ghost use Rattle.class_table.specs.TypesWritten.{type_params};
 
 use crate::kinds::{DIMENSIONS, TYPES, TYPE_PARAM, TYPE_PARAMS};
 use crate::parts::{count_in, is_type, node_in, type_in, word_in};
@@ -65,10 +65,13 @@ fn later_names(
     let parts = tree.parts(n);
     let mut out = Vec::new(alloc);
     for at in 1..parts.len() {
-        if let Part::Leaf(i) = parts[at] {
-            if tree.leaf(i).class == ID {
-                let name = names.name(alloc, tree.text(bytes, i))?;
-                out.push(NamePart { name })?;
+        match parts[at] {
+            Part::Node(_) => {}
+            Part::Leaf(i) => {
+                if tree.leaf(i).class == ID {
+                    let name = names.name(alloc, tree.text(bytes, i))?;
+                    out.push(NamePart { name })?;
+                }
             }
         }
     }
@@ -81,13 +84,16 @@ fn named(alloc: Global, tree: &Tree, bytes: &[u8], n: NodeId, names: &mut Names)
     ensures { IfOk result (λ base. base ≡ named (parts_at tree.now bytes.now n.0)) }
 {
     let parts = tree.parts(n);
-    match parts.first() {
-        Some(Part::Leaf(i)) => {
-            let name = names.name(alloc, tree.text(bytes, *i))?;
+    if parts.is_empty() {
+        return Ok(Base::Void);
+    }
+    match parts[0] {
+        Part::Node(_) => Ok(Base::Void),
+        Part::Leaf(i) => {
+            let name = names.name(alloc, tree.text(bytes, i))?;
             let others = later_names(alloc, tree, bytes, n, names)?;
             Ok(Base::Named(NamePart { name }, others))
         }
-        _ => Ok(Base::Void),
     }
 }
 
@@ -97,15 +103,17 @@ fn base_of(alloc: Global, tree: &Tree, bytes: &[u8], n: NodeId, names: &mut Name
     ensures { IfOk result (λ base. base ≡ base_of (parts_at tree.now bytes.now n.0)) }
 {
     let parts = tree.parts(n);
-    match parts.first() {
-        Some(Part::Leaf(i)) => {
-            if tree.leaf(*i).class == PRIM {
-                return Ok(Base::Prim(prim_named(tree.text(bytes, *i))));
+    if parts.is_empty() {
+        return Ok(Base::Void);
+    }
+    match parts[0] {
+        Part::Node(m) => named(alloc, tree, bytes, m, names),
+        Part::Leaf(i) => {
+            if tree.leaf(i).class == PRIM {
+                return Ok(Base::Prim(prim_named(tree.text(bytes, i))));
             }
             named(alloc, tree, bytes, n, names)
         }
-        Some(Part::Node(m)) => named(alloc, tree, bytes, *m, names),
-        None => Ok(Base::Void),
     }
 }
 
@@ -160,9 +168,12 @@ fn written_types(alloc: Global, tree: &Tree, bytes: &[u8], n: NodeId, names: &mu
     let parts = tree.parts(n);
     let mut out = Vec::new(alloc);
     for part in parts {
-        if let Part::Node(m) = part {
-            if is_type(tree.kind(*m)) {
-                out.push(written(alloc, tree, bytes, *m, 0, names)?)?;
+        match part {
+            Part::Leaf(_) => {}
+            Part::Node(m) => {
+                if is_type(tree.kind(*m)) {
+                    out.push(written(alloc, tree, bytes, *m, 0, names)?)?;
+                }
             }
         }
     }
@@ -235,9 +246,12 @@ fn each_type_param(
     let parts = tree.parts(n);
     let mut out = Vec::new(alloc);
     for part in parts {
-        if let Part::Node(m) = part {
-            if tree.kind(*m) == TYPE_PARAM {
-                out.push(type_param(alloc, tree, bytes, *m, names)?)?;
+        match part {
+            Part::Leaf(_) => {}
+            Part::Node(m) => {
+                if tree.kind(*m) == TYPE_PARAM {
+                    out.push(type_param(alloc, tree, bytes, *m, names)?)?;
+                }
             }
         }
     }
