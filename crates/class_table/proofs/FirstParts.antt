@@ -1,5 +1,6 @@
 -- The first part of a node.
-use Rattle.std.proofs.Common.{◌≡◌, ℕ, ◌<◌, ◌≤◌, List, length, get_or, drop, ◌∙◌}
+use Rattle.std.proofs.Common.{◌≡◌, ◌==◌, ℕ, ◌<◌, ◌≤◌, true, false, List, length, get_or, drop, ◌∙◌, sym, arith}
+use Rattle.std.proofs.lemmas.Bool.{eqb-true, eqb-false}
 use Rattle.rw_base.specs.declared.tree.NodeId.{NodeId}
 use Rattle.rw_base.specs.declared.tree.Part.{Part}
 use Rattle.rw_base.specs.declared.tree.Part.TheVariants as part
@@ -20,3 +21,10 @@ module _ (t : Arena) (bytes : List ℕ) (n : ℕ) (ps : List Part) (kids : kids_
 
   pub no_first : length ps ≤ 0 → parts_at t bytes n ≡ none
   no_first le = at_start t bytes n ps kids ∙ at_end t bytes ps 0 le
+
+-- whether there is a first part
+pub is_none : (n : ℕ) → true ≡ (n == 0) → n ≤ 0
+is_none n e = omega (arith, eqb-true n 0 (sym e))
+
+pub is_there : (n : ℕ) → false ≡ (n == 0) → 0 < n
+is_there n e = let ne = eqb-false n 0 (sym e) in omega (arith, ne)

@@ -1,7 +1,8 @@
-use Rattle.std.proofs.Common.{◌≡◌, ◌∙◌, ◌+◌, ◌++◌, true, false, sym, ap, length, drop}
+use Rattle.std.proofs.Common.{◌≡◌, ◌∙◌, ◌+◌, ◌++◌, true, false, sym, ap, length, drop, ℕ, List, Option, Some}
+use Rattle.class_table.specs.declared.file.ImportName.{ImportName}
 use Rattle.rw_base.specs.PartLaws.{below_next}
-use Rattle.class_table.specs.Words.{trees_of}
-use Rattle.class_table.specs.Files.{imported}
+use Rattle.class_table.specs.Words.{trees_of, parts_at}
+use Rattle.class_table.specs.Files.{imported, text_in}
 use Rattle.class_table.proofs.Steps.{at_start, at_leaf, at_node, at_end, choose, otherwise}
 use Rattle.class_table.proofs.file.imported.Goals as goal
 use Rattle.class_table.proofs.file.imported.Goals.{in-Leaf, in-Node+else-on_demand+then-has}
@@ -48,7 +49,8 @@ loop-part-preserved c =
       | in-Node+else-on_demand+else-has+in_ok-add_text-in-Node w ↦ record {
         same = rw (w.name-is, w.on_demand-is)
             (ap (λ x. imported od x (trees_of t b (drop (k + 1) ps))) w.in_ok-add_text-in-Node.ensures
-            ∙ (ap (λ x. imported x _ (trees_of t b (drop (k + 1) ps))) w.if-on_demand.false
+            ∙ (ap (λ x. imported x (old ++ text_in (parts_at t b w.in-Node.m.0)) (trees_of t b (drop (k + 1) ps)))
+            w.if-on_demand.false
             ∙ (sym (ap (imported od old) (at_node t b ps k _ w.in-Node.m lt w.in-Node.is)
             ∙ (otherwise _ _ w.if-on_demand.false ∙ otherwise _ _ (sym (w.has.ensures b) ∙ w.if-has.false)))
             ∙ same)));
@@ -58,6 +60,8 @@ loop-part-preserved c =
 
 pub returns : goal.returns
 returns c =
-    sym (ap (imported c.loop-part.on_demand c.loop-part.name.items)
+    let found : List ℕ → Option ImportName = λ x. Some (record { name = x; on_demand = c.loop-part.on_demand }) in
+    ap found c.from_vec-name.ensures
+    ∙ (sym (ap (imported c.loop-part.on_demand c.loop-part.name.items)
     (at_end c.args.tree.now c.args.bytes.now c.parts-parts.result.now c.loop-part.part-index c.loop-part-test.false))
-    ∙ c.loop-part.invariant.same
+    ∙ c.loop-part.invariant.same)
