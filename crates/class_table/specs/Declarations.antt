@@ -26,7 +26,7 @@ abbrev pub joined : List ℕ → List ℕ → List ℕ
 joined [] name = name
 joined (c ∷ cs) name = (c ∷ cs) ++ (codes "." ++ name)
 
-abbrev pub qualified : Around → Parts → List ℕ
+unfoldable pub qualified : Around → Parts → List ℕ
 qualified a ps = joined a.within (name_in ps)
 
 abbrev pub or_itself : List ℕ → Option (List ℕ) → List ℕ
@@ -41,7 +41,7 @@ enclosing_class name params = record { name = name; type_params = map (λ p. p.n
 abbrev pub scope_of : List WrittenParam → ScopeParams
 scope_of params = record { params = params }
 
-abbrev pub inside : Around → List ℕ → List WrittenParam → Around
+unfoldable pub inside : Around → List ℕ → List WrittenParam → Around
 inside a name params = record {
   cx = record {
     «package» = a.cx.«package»;
@@ -56,7 +56,7 @@ inside a name params = record {
 -- ---- one declared type, by its parts
 
 -- only a class has a superclass (JLS 8.1.4); an interface has its superinterfaces behind `extends` (9.1.3)
-abbrev pub superclass : ClassKind → Parts → Option Written
+unfoldable pub superclass : ClassKind → Parts → Option Written
 superclass kind.Class ps = type_at (node_behind EXTENDS false ps)
 superclass kind.Interface ps = None
 superclass kind.Enum ps = None
@@ -68,10 +68,10 @@ before_interfaces kind.Class = IMPLEMENTS
 before_interfaces kind.Enum = IMPLEMENTS
 before_interfaces kind.Annotation = IMPLEMENTS
 
-abbrev pub interfaces : ClassKind → Parts → List Written
+unfoldable pub interfaces : ClassKind → Parts → List Written
 interfaces t ps = listed (node_behind (before_interfaces t) false ps)
 
-abbrev pub declared : Around → Bool → ClassKind → Parts → DeclaredType
+unfoldable pub declared : Around → Bool → ClassKind → Parts → DeclaredType
 declared a is_private t ps = record {
   name = qualified a ps;
   kind = t;
@@ -88,7 +88,7 @@ declared a is_private t ps = record {
 
 -- ---- all of them
 
-abbrev pub class_kind : ℕ → Option ClassKind
+unfoldable pub class_kind : ℕ → Option ClassKind
 class_kind k =
     if k == CLASS then Some kind.Class
     else if k == INTERFACE then Some kind.Interface
@@ -104,7 +104,7 @@ abbrev pub holds_types : ℕ → Bool
 holds_types k = has_mods k || k == BODY
 
 -- whether the types right inside a node are private
-abbrev pub private_inside : ℕ → Parts → Bool
+unfoldable pub private_inside : ℕ → Parts → Bool
 private_inside k kids = has_mods k && says PRIVATE kids
 
 -- where the parts of a node stand

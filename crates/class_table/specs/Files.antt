@@ -20,7 +20,7 @@ parts_or_none None = none
 parts_or_none (Some n) = n.1
 
 -- the name of the package, the empty name for the unnamed one
-abbrev pub package_name : Parts → List ℕ
+unfoldable pub package_name : Parts → List ℕ
 package_name ps = text_in (parts_or_none (node_in QUALIFIED_NAME (parts_or_none (node_in PACKAGE ps))))
 
 -- The name that is imported, by its first identifiers and the nodes behind them, each of which has a dot and a further
@@ -37,7 +37,7 @@ abbrev pub rows_of : Bool → Option ImportName → List ImportRow
 rows_of is_static None = []
 rows_of is_static (Some i) = record { name = i.name; is_static = is_static; on_demand = i.on_demand } ∷ []
 
-abbrev pub import_of : Parts → List ImportRow
+unfoldable pub import_of : Parts → List ImportRow
 import_of ps = rows_of (has STATIC ps) (imported false (name_in ps) ps)
 
 abbrev pub import_node : ℕ → Parts → List ImportRow
@@ -47,5 +47,5 @@ abbrev pub imports_in : Parts → List ImportRow
 imports_in ps = of_nodes import_node ps
 
 -- the context of a file by the parts of its root
-abbrev pub file_context : Parts → UnitContext
+unfoldable pub file_context : Parts → UnitContext
 file_context ps = record { «package» = package_name ps; imports = imports_in ps; enclosing = [] }

@@ -132,6 +132,7 @@ fn scopes_inside(
 }
 
 // What is around the members of a type.
+#[tactic(auto, unfolding(crate::specs::Declarations::inside))]
 pub(crate) fn inside(
     alloc: Global,
     around: &Around,

@@ -1,11 +1,12 @@
 // The declared types of a file.
-ghost use Rattle.std.specs.Prelude.{◌≡◌, ◌<◌, ◌++◌, List, ℕ, length, IfOk, OnOk};
+ghost use Rattle.std.specs.Prelude.{◌≡◌, ◌<◌, ◌++◌, ◌∷◌, [], List, ℕ, length, IfOk, OnOk};
 ghost use Rattle.rw_base.specs.Arena.{end_of, kind_of};
 ghost use Rattle.class_table.specs.Words.{parts_at};
 ghost use Rattle.class_table.specs.Members.{no_mods, fields_in, methods_in};
 ghost use Rattle.class_table.specs.Declarations.{superclass, interfaces, before_interfaces, declared, class_kind};
 ghost use Rattle.class_table.specs.Declarations.{has_mods, holds_types, private_inside, around_in, node_types};
-ghost use Rattle.class_table.specs.Declarations.{types_in, outermost, skeleton_of, qualified};
+ghost use Rattle.class_table.specs.Declarations.{types_in, outermost, skeleton_of, qualified, inside};
+ghost use Rattle.class_table.specs.TypesWritten.{type_params};
 
 use crate::around::{Around, copied_context, inside, joined, top_of};
 use crate::file::{file_context, package_name};
@@ -20,6 +21,7 @@ use jtypes::{ClassKind, Name, Names, SharedList};
 use rw_base::{Mem, NodeId, Part, Tree};
 use std::alloc::Global;
 
+#[tactic(auto, unfolding(crate::specs::Declarations::superclass))]
 fn superclass(
     alloc: Global,
     tree: &Tree,
@@ -52,6 +54,7 @@ fn before_interfaces(kind: ClassKind) -> u16
     }
 }
 
+#[tactic(auto, unfolding(crate::specs::Declarations::interfaces))]
 fn interfaces(
     alloc: Global,
     tree: &Tree,
@@ -96,6 +99,7 @@ fn members_of(
 }
 
 // A type by its node.
+#[tactic(auto, unfolding(crate::specs::Declarations::declared, crate::specs::Declarations::qualified))]
 fn declared(
     alloc: Global,
     tree: &Tree,
@@ -113,23 +117,31 @@ fn declared(
     let simple = name_in(alloc, tree, bytes, n, names)?;
     let name = joined(alloc, &around.within, &simple, names)?;
     let top = top_of(around, &name)?;
+    let cx = copied_context(&around.cx)?;
+    let scopes = around.scopes.copy()?;
+    let params = type_params(alloc, tree, bytes, n, names)?;
+    let extended = superclass(alloc, tree, bytes, n, kind, names)?;
+    let implemented = interfaces(alloc, tree, bytes, n, kind, names)?;
     let Members { fields, methods } = members_of(alloc, tree, bytes, n, kind, names)?;
+    let declared_fields = SharedList::new(alloc, fields)?;
+    let declared_methods = SharedList::new(alloc, methods)?;
     Ok(DeclaredType {
         name,
         kind,
         top,
         is_private,
-        cx: copied_context(&around.cx)?,
-        around: around.scopes.copy()?,
-        type_params: type_params(alloc, tree, bytes, n, names)?,
-        superclass: superclass(alloc, tree, bytes, n, kind, names)?,
-        interfaces: interfaces(alloc, tree, bytes, n, kind, names)?,
-        fields: SharedList::new(alloc, fields)?,
-        methods: SharedList::new(alloc, methods)?,
+        cx,
+        around: scopes,
+        type_params: params,
+        superclass: extended,
+        interfaces: implemented,
+        fields: declared_fields,
+        methods: declared_methods,
     })
 }
 
 // The kind of type that a node of a kind declares.
+#[tactic(auto, unfolding(crate::specs::Declarations::class_kind))]
 fn class_kind(kind: u16) -> Option<ClassKind>
     ensures { result ≡ class_kind kind }
 {
@@ -159,12 +171,38 @@ fn holds_types(kind: u16) -> bool
 }
 
 // Whether the types right inside a node are private.
+#[tactic(auto, unfolding(crate::specs::Declarations::private_inside))]
 fn private_inside(tree: &Tree, n: NodeId) -> bool
     requires { n.0 < length tree.now.nodes }
     ensures { (bytes : List ℕ) →
         result ≡ private_inside (kind_of tree.now.nodes n.0) (parts_at tree.now bytes n.0) }
 {
     has_mods(tree.kind(n)) && says(tree, n, PRIVATE)
+}
+
+// Appends a type, and gives what is around its members.
+fn push_type(
+    alloc: Global,
+    tree: &Tree,
+    bytes: &[u8],
+    n: NodeId,
+    kind: ClassKind,
+    around: &Around,
+    is_private: bool,
+    names: &mut Names,
+    out: &mut Vec<DeclaredType>,
+) -> Mem<Around>
+    requires node { n.0 < length tree.now.nodes }
+    requires bytes { length bytes.now ≡ end_of tree.now }
+    ensures row { let d = declared around.now is_private kind (parts_at tree.now bytes.now n.0) in
+        IfOk result (λ a. out.new.items ≡ out.old.items ++ d ∷ []) }
+    ensures inside { let ps = parts_at tree.now bytes.now n.0 in
+        IfOk result (λ a. a ≡ inside around.now (qualified around.now ps) (type_params ps)) }
+{
+    let row = declared(alloc, tree, bytes, n, kind, around, is_private, names)?;
+    let inner = inside(alloc, around, &row.name, &row.type_params)?;
+    out.push(row)?;
+    Ok(inner)
 }
 
 // Appends the declared types among a node's parts.
@@ -215,19 +253,19 @@ fn add_node(
         let more = node_types around.now is_private k (class_kind k) ps inner in
         OnOk result (out.new.items ≡ out.old.items ++ more) }
 {
-    let inside_private = private_inside(tree, m);
-    match class_kind(tree.kind(m)) {
+    let form = tree.kind(m);
+    let are_private = private_inside(tree, m);
+    match class_kind(form) {
         Some(kind) => {
-            let row = declared(alloc, tree, bytes, m, kind, around, is_private, names)?;
-            let inner = inside(alloc, around, &row.name, &row.type_params)?;
-            out.push(row)?;
-            add_types(alloc, tree, bytes, m, &inner, inside_private, names, out)?;
+            let inner = push_type(alloc, tree, bytes, m, kind, around, is_private, names, out)?;
+            add_types(alloc, tree, bytes, m, &inner, are_private, names, out)?;
             Ok(())
         }
         None => {
-            if holds_types(tree.kind(m)) {
-                add_types(alloc, tree, bytes, m, around, inside_private, names, out)?;
+            if !holds_types(form) {
+                return Ok(());
             }
+            add_types(alloc, tree, bytes, m, around, are_private, names, out)?;
             Ok(())
         }
     }

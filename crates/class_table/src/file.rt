@@ -60,6 +60,7 @@ fn qualified_name(
 }
 
 // The name of the package of a file with this root.
+#[tactic(auto, unfolding(crate::specs::Files::package_name))]
 pub(crate) fn package_name(alloc: Global, tree: &Tree, bytes: &[u8], root: NodeId, names: &mut Names) -> Mem<Name>
     requires node { root.0 < length tree.now.nodes }
     requires bytes { length bytes.now ≡ end_of tree.now }
@@ -99,6 +100,7 @@ fn imported(alloc: Global, tree: &Tree, bytes: &[u8], n: NodeId, first: Vec<u8>)
     Ok(Some(ImportName { name, on_demand }))
 }
 
+#[tactic(auto, unfolding(crate::specs::Files::import_of))]
 fn import_of(alloc: Global, tree: &Tree, bytes: &[u8], n: NodeId, names: &mut Names) -> Mem<Option<ImportRow>>
     requires node { n.0 < length tree.now.nodes }
     requires bytes { length bytes.now ≡ end_of tree.now }
@@ -161,6 +163,7 @@ fn imports_in(alloc: Global, tree: &Tree, bytes: &[u8], n: NodeId, names: &mut N
 }
 
 // The context of a file with this root.
+#[tactic(auto, unfolding(crate::specs::Files::file_context))]
 pub(crate) fn file_context(
     alloc: Global,
     tree: &Tree,

@@ -40,3 +40,12 @@ pub add_types-returns : goal.add_types-returns
 add_types-returns t c =
     types_end c.args.around.now c.args.is_private c.args.tree.now c.args.bytes.now c.parts-parts.result.now
     c.loop-part.part-index _ _ c.loop-part.invariant.same c.loop-part-test.false
+
+pub add_node-returns-in_ok-add_types-in-Some : goal.add_node-returns-in_ok-add_types-in-Some
+add_node-returns-in_ok-add_types-in-Some t c = ?
+
+pub add_node-returns-then-not-holds_types : goal.add_node-returns-then-not-holds_types
+add_node-returns-then-not-holds_types t c = ?
+
+pub add_node-returns-in_ok-add_types : goal.add_node-returns-in_ok-add_types
+add_node-returns-in_ok-add_types t c = ?
