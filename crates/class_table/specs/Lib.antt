@@ -4,3 +4,4 @@ pub mod TypesWritten
 pub mod Members
 pub mod Files
 pub mod Declarations
+pub mod Assembling

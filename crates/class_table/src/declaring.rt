@@ -6,6 +6,7 @@ ghost use Rattle.class_table.specs.Members.{no_mods, fields_in, methods_in};
 ghost use Rattle.class_table.specs.Declarations.{superclass, interfaces, before_interfaces, declared, class_kind};
 ghost use Rattle.class_table.specs.Declarations.{has_mods, holds_types, private_inside, around_in, node_types};
 ghost use Rattle.class_table.specs.Declarations.{types_in, outermost, skeleton_of, qualified, inside};
+ghost use Rattle.class_table.specs.Assembling.{place_of, assembled};
 ghost use Rattle.class_table.specs.TypesWritten.{type_params};
 
 use crate::around::{Around, copied_context, inside, joined, top_of};
@@ -15,7 +16,8 @@ use crate::members::{Members, add_members};
 use crate::modifiers::{Mods, says};
 use crate::parts::node_behind;
 use crate::types::{listed, name_in, type_at, type_params};
-use crate::written::{DeclaredType, Skeleton, Written};
+use crate::written::{DeclaredType, ScopeParams, Skeleton, Written, WrittenField, WrittenMethod, WrittenParam};
+use j_names::UnitContext;
 use java_lex::class::{EXTENDS, IMPLEMENTS, PRIVATE};
 use jtypes::{ClassKind, Name, Names, SharedList};
 use rw_base::{Mem, NodeId, Part, Tree};
@@ -71,6 +73,12 @@ fn interfaces(
 }
 
 // The members of a type.
+#[derive(Debug, Drop)]
+struct TypeMembers {
+    fields: SharedList<WrittenField>,
+    methods: SharedList<WrittenMethod>,
+}
+
 fn members_of(
     alloc: Global,
     tree: &Tree,
@@ -78,13 +86,13 @@ fn members_of(
     n: NodeId,
     kind: ClassKind,
     names: &mut Names,
-) -> Mem<Members>
+) -> Mem<TypeMembers>
     requires node { n.0 < length tree.now.nodes }
     requires bytes { length bytes.now ≡ end_of tree.now }
     ensures fields { let ps = parts_at tree.now bytes.now n.0 in
-        IfOk result (λ all. all.fields.items ≡ fields_in kind no_mods ps) }
+        IfOk result (λ all. all.fields ≡ fields_in kind no_mods ps) }
     ensures methods { let ps = parts_at tree.now bytes.now n.0 in
-        IfOk result (λ all. all.methods.items ≡ methods_in no_mods ps) }
+        IfOk result (λ all. all.methods ≡ methods_in no_mods ps) }
 {
     let mut all = Members {
         fields: Vec::new(alloc),
@@ -95,11 +103,112 @@ fn members_of(
         is_private: false,
     };
     add_members(alloc, tree, bytes, n, kind, none, names, &mut all)?;
-    Ok(all)
+    let Members { fields, methods } = all;
+    let fields = SharedList::new(alloc, fields)?;
+    let methods = SharedList::new(alloc, methods)?;
+    Ok(TypeMembers { fields, methods })
+}
+
+// The name of a type, and where it stands.
+#[derive(Debug, Drop)]
+struct Place {
+    name: Name,
+    top: Name,
+    cx: UnitContext,
+    scopes: SharedList<ScopeParams>,
+}
+
+#[tactic(auto, unfolding(crate::specs::Declarations::qualified))]
+fn place_of(
+    alloc: Global,
+    tree: &Tree,
+    bytes: &[u8],
+    n: NodeId,
+    around: &Around,
+    names: &mut Names,
+) -> Mem<Place>
+    requires node { n.0 < length tree.now.nodes }
+    requires bytes { length bytes.now ≡ end_of tree.now }
+    ensures { let name = qualified around.now (parts_at tree.now bytes.now n.0) in
+        IfOk result (λ p. p ≡ place_of around.now name) }
+{
+    let simple = name_in(alloc, tree, bytes, n, names)?;
+    let name = joined(alloc, &around.within, &simple, names)?;
+    let top = top_of(around, &name)?;
+    let cx = copied_context(&around.cx)?;
+    let scopes = around.scopes.copy()?;
+    Ok(Place {
+        name,
+        top,
+        cx,
+        scopes,
+    })
+}
+
+// The type parameters of a type, and the types that it extends and implements.
+#[derive(Debug, Drop)]
+struct Supers {
+    type_params: SharedList<WrittenParam>,
+    superclass: Option<Written>,
+    interfaces: SharedList<Written>,
+}
+
+fn supers_of(
+    alloc: Global,
+    tree: &Tree,
+    bytes: &[u8],
+    n: NodeId,
+    kind: ClassKind,
+    names: &mut Names,
+) -> Mem<Supers>
+    requires node { n.0 < length tree.now.nodes }
+    requires bytes { length bytes.now ≡ end_of tree.now }
+    ensures params { IfOk result (λ s. s.type_params ≡ type_params (parts_at tree.now bytes.now n.0)) }
+    ensures superclass { IfOk result (λ s. s.superclass ≡ superclass kind (parts_at tree.now bytes.now n.0)) }
+    ensures interfaces { IfOk result (λ s. s.interfaces ≡ interfaces kind (parts_at tree.now bytes.now n.0)) }
+{
+    let params = type_params(alloc, tree, bytes, n, names)?;
+    let extended = superclass(alloc, tree, bytes, n, kind, names)?;
+    let implemented = interfaces(alloc, tree, bytes, n, kind, names)?;
+    Ok(Supers {
+        type_params: params,
+        superclass: extended,
+        interfaces: implemented,
+    })
+}
+
+fn assembled(kind: ClassKind, is_private: bool, place: Place, supers: Supers, members: TypeMembers) -> DeclaredType
+    ensures { result ≡ assembled kind is_private place supers members }
+{
+    let Place {
+        name,
+        top,
+        cx,
+        scopes,
+    } = place;
+    let Supers {
+        type_params,
+        superclass,
+        interfaces,
+    } = supers;
+    let TypeMembers { fields, methods } = members;
+    DeclaredType {
+        name,
+        kind,
+        top,
+        is_private,
+        cx,
+        around: scopes,
+        type_params,
+        superclass,
+        interfaces,
+        fields,
+        methods,
+    }
 }
 
 // A type by its node.
-#[tactic(auto, unfolding(crate::specs::Declarations::declared, crate::specs::Declarations::qualified))]
+#[tactic(auto, unfolding(crate::specs::Declarations::declared))]
 fn declared(
     alloc: Global,
     tree: &Tree,
@@ -114,30 +223,10 @@ fn declared(
     requires bytes { length bytes.now ≡ end_of tree.now }
     ensures { IfOk result (λ d. d ≡ declared around.now is_private kind (parts_at tree.now bytes.now n.0)) }
 {
-    let simple = name_in(alloc, tree, bytes, n, names)?;
-    let name = joined(alloc, &around.within, &simple, names)?;
-    let top = top_of(around, &name)?;
-    let cx = copied_context(&around.cx)?;
-    let scopes = around.scopes.copy()?;
-    let params = type_params(alloc, tree, bytes, n, names)?;
-    let extended = superclass(alloc, tree, bytes, n, kind, names)?;
-    let implemented = interfaces(alloc, tree, bytes, n, kind, names)?;
-    let Members { fields, methods } = members_of(alloc, tree, bytes, n, kind, names)?;
-    let declared_fields = SharedList::new(alloc, fields)?;
-    let declared_methods = SharedList::new(alloc, methods)?;
-    Ok(DeclaredType {
-        name,
-        kind,
-        top,
-        is_private,
-        cx,
-        around: scopes,
-        type_params: params,
-        superclass: extended,
-        interfaces: implemented,
-        fields: declared_fields,
-        methods: declared_methods,
-    })
+    let place = place_of(alloc, tree, bytes, n, around, names)?;
+    let supers = supers_of(alloc, tree, bytes, n, kind, names)?;
+    let members = members_of(alloc, tree, bytes, n, kind, names)?;
+    Ok(assembled(kind, is_private, place, supers, members))
 }
 
 // The kind of type that a node of a kind declares.
