@@ -270,6 +270,7 @@ fn private_inside(tree: &Tree, n: NodeId) -> bool
 }
 
 // Appends a type, and gives what is around its members.
+#[tactic(auto, unfolding(crate::specs::Declarations::declared))]
 fn push_type(
     alloc: Global,
     tree: &Tree,
@@ -361,6 +362,7 @@ fn add_node(
 }
 
 // The place of the types of a file.
+#[tactic(auto, unfolding(crate::specs::Files::file_context))]
 fn outermost(alloc: Global, tree: &Tree, bytes: &[u8], root: NodeId, names: &mut Names) -> Mem<Around>
     requires node { root.0 < length tree.now.nodes }
     requires bytes { length bytes.now ≡ end_of tree.now }
