@@ -1,5 +1,6 @@
 -- Loops that gather what nodes give: one part further.
-use Rattle.std.proofs.Common.{◌≡◌, ℕ, ◌+◌, ◌<◌, ◌≤◌, List, [], ◌∷◌, ◌++◌, Bool, true, false, length, get_or, drop, ap, sym}
+use Rattle.std.proofs.Common.{◌≡◌, ℕ, ◌+◌, ◌<◌, ◌≤◌, List, [], ◌∷◌, ◌++◌, Bool, true, false, length, get_or, drop, ap}
+use Rattle.std.proofs.Common.{sym}
 use Rattle.std.proofs.Common.{◌∙◌, refl, append_assoc, append-nil, if◌then◌else◌}
 use Rattle.rw_base.specs.declared.tree.NodeId.{NodeId}
 use Rattle.rw_base.specs.declared.tree.Part.{Part}
@@ -11,7 +12,8 @@ use Rattle.class_table.specs.Finding.{of_nodes}
 use Rattle.class_table.proofs.Steps.{at_start, at_leaf, at_node, at_end}
 
 -- h gathers what g gives for each node
-module _ {A : Type 0} (h : Parts → List A) (g : ℕ → Parts → List A) (skips : (w : Word) (f : Parts) → h (leaf w f) ≡ h f)
+module _ {A : Type 0} (h : Parts → List A) (g : ℕ → Parts → List A)
+    (skips : (w : Word) (f : Parts) → h (leaf w f) ≡ h f)
     (adds : (k : ℕ) (kids f : Parts) → h (node tt k kids f) ≡ g k kids ++ h f) (ends : h none ≡ [])
     (t : Arena) (bytes : List ℕ) (ps : List Part) (k : ℕ) (out all : List A)
     (so_far : out ++ h (trees_of t bytes (drop k ps)) ≡ all) where
@@ -53,7 +55,8 @@ module _ {A : Type 0} (g : ℕ → Parts → List A) (t : Arena) (bytes : List �
   end_of_nodes = over_end (of_nodes g) g (λ w f. refl) (λ n kids f. refl) refl t bytes ps k out all so_far
 
 -- h gathers what g gives for each word
-module _ {A : Type 0} (h : Parts → List A) (g : Word → List A) (takes : (w : Word) (f : Parts) → h (leaf w f) ≡ g w ++ h f)
+module _ {A : Type 0} (h : Parts → List A) (g : Word → List A)
+    (takes : (w : Word) (f : Parts) → h (leaf w f) ≡ g w ++ h f)
     (skips : (k : ℕ) (kids f : Parts) → h (node tt k kids f) ≡ h f) (ends : h none ≡ [])
     (t : Arena) (bytes : List ℕ) (ps : List Part) (k : ℕ) (out all : List A)
     (so_far : out ++ h (trees_of t bytes (drop k ps)) ≡ all) where

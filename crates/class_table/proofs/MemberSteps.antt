@@ -65,12 +65,15 @@ module _ (mods : Mods) where
       (so_far : out ++ methods_in mods (trees_of t bytes (drop k ps)) ≡ all) where
     pub methods_leaf : (d : Part) (i : ℕ) → k < length ps → get_or ps k d ≡ part.Leaf i
         → out ++ methods_in mods (trees_of t bytes (drop (k + 1) ps)) ≡ all
-    methods_leaf = over_leaf (methods_in mods) own_methods methods_skip methods_add methods_none t bytes ps k out all so_far
+    methods_leaf =
+        over_leaf (methods_in mods) own_methods methods_skip methods_add methods_none t bytes ps k out all so_far
 
     pub methods_node : (d : Part) (m : NodeId) (new : List WrittenMethod) → k < length ps → get_or ps k d ≡ part.Node m
         → new ≡ out ++ own_methods (kind_of t.nodes m.0) (parts_at t bytes m.0)
         → new ++ methods_in mods (trees_of t bytes (drop (k + 1) ps)) ≡ all
-    methods_node = over_node (methods_in mods) own_methods methods_skip methods_add methods_none t bytes ps k out all so_far
+    methods_node =
+        over_node (methods_in mods) own_methods methods_skip methods_add methods_none t bytes ps k out all so_far
 
     pub methods_end : length ps ≤ k → out ≡ all
-    methods_end = over_end (methods_in mods) own_methods methods_skip methods_add methods_none t bytes ps k out all so_far
+    methods_end =
+        over_end (methods_in mods) own_methods methods_skip methods_add methods_none t bytes ps k out all so_far

@@ -12,7 +12,8 @@ use Rattle.rw_base.specs.RelabelLaws.{leaf_next_as, node_next_as, none_next_as}
 use Rattle.class_table.specs.Words.{word_of, parts_at, trees_of}
 
 module _ (t : Arena) (bytes : List ℕ) where
-  pub at_start : (n : ℕ) (ps : List Part) → kids_of t.nodes n ≡ forest_of t.nodes ps → parts_at t bytes n ≡ trees_of t bytes ps
+  pub at_start : (n : ℕ) (ps : List Part) → kids_of t.nodes n ≡ forest_of t.nodes ps
+      → parts_at t bytes n ≡ trees_of t bytes ps
   unfolding parts_at trees_of
   at_start n ps e = ap (relabel (λ _. tt) (word_of t bytes)) e
 

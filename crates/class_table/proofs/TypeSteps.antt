@@ -32,8 +32,8 @@ module _ (a : Around) (p : Bool) where
   unfolding types_in
   types_none = refl
 
-  module _ (k : ℕ) (kids : Parts) (old : List DeclaredType) (are_private : Bool) (same : are_private ≡ private_inside k kids)
-      where
+  module _ (k : ℕ) (kids : Parts) (old : List DeclaredType) (are_private : Bool)
+      (same : are_private ≡ private_inside k kids) where
     -- with the types in it
     by_kind : (o : Option ClassKind) → class_kind k ≡ o
         → own_types k kids ≡ node_types a p k o kids (types_in (around_in a o kids) (private_inside k kids) kids)

@@ -2,9 +2,9 @@
 use Rattle.std.specs.Prelude.{ℕ, Bool, List}
 use Rattle.jtypes.specs.declared.signatures.ClassKind.{ClassKind}
 use Rattle.class_table.specs.declared.around.Around.{Around}
-use Rattle.class_table.specs.declared.declaring.Place.{Place}
-use Rattle.class_table.specs.declared.declaring.Supers.{Supers}
-use Rattle.class_table.specs.declared.declaring.TypeMembers.{TypeMembers}
+use Rattle.class_table.specs.declared.assembling.Place.{Place}
+use Rattle.class_table.specs.declared.assembling.Supers.{Supers}
+use Rattle.class_table.specs.declared.assembling.TypeMembers.{TypeMembers}
 use Rattle.class_table.specs.declared.written.DeclaredType.{DeclaredType}
 use Rattle.class_table.specs.Declarations.{or_itself}
 

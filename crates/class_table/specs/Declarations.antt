@@ -7,7 +7,8 @@ use Rattle.java_lex.specs.declared.class.TheConstants.{EXTENDS, IMPLEMENTS, PRIV
 use Rattle.jtypes.specs.declared.signatures.ClassKind.{ClassKind}
 use Rattle.jtypes.specs.declared.signatures.ClassKind.TheVariants as kind
 use Rattle.j_names.specs.declared.context.EnclosingClass.{EnclosingClass}
-use Rattle.class_table.specs.declared.kinds.TheConstants.{CLASS, INTERFACE, ENUM, ANNOTATION_TYPE, TYPE_DECL, MEMBER, BODY}
+use Rattle.class_table.specs.declared.kinds.TheConstants.{CLASS, INTERFACE, ENUM, ANNOTATION_TYPE}
+use Rattle.class_table.specs.declared.kinds.TheConstants.{TYPE_DECL, MEMBER, BODY}
 use Rattle.class_table.specs.declared.around.Around.{Around}
 use Rattle.class_table.specs.declared.written.Written.{Written}
 use Rattle.class_table.specs.declared.written.WrittenParam.{WrittenParam}

@@ -4,8 +4,8 @@ ghost use Rattle.std.specs.Option.{option_to_list};
 ghost use Rattle.rw_base.specs.Arena.{end_of, kind_of};
 ghost use Rattle.class_table.specs.Words.{parts_at};
 ghost use Rattle.class_table.specs.Finding.{node_at, name_in};
-ghost use Rattle.class_table.specs.Files.{text_in, parts_or_none, package_name, imported, rows_of, import_of, import_node};
-ghost use Rattle.class_table.specs.Files.{imports_in, file_context};
+ghost use Rattle.class_table.specs.Files.{text_in, parts_or_none, package_name, imported, import_of};
+ghost use Rattle.class_table.specs.Files.{import_node, imports_in, file_context};
 
 use crate::kinds::{IMPORT, PACKAGE, QUALIFIED_NAME};
 use crate::parts::{has, node_in, word_in};

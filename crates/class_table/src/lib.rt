@@ -21,6 +21,7 @@
 #![tactic(auto)]
 
 mod around;
+mod assembling;
 mod declaring;
 mod fields;
 mod file;

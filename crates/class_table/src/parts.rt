@@ -1,7 +1,8 @@
 // Finding words and nodes among the parts of a node.
 ghost use Rattle.std.specs.Prelude.{◌≡◌, ◌<◌, ◌^◌, List, ℕ, IfSome, length, false};
 ghost use Rattle.class_table.specs.Words.{parts_at};
-ghost use Rattle.class_table.specs.Finding.{word_in, word_at, has, node_in, node_at, node_behind, type_in, is_type, count_in};
+ghost use Rattle.class_table.specs.Finding.{word_in, word_at, has, node_in, node_at, node_behind};
+ghost use Rattle.class_table.specs.Finding.{type_in, is_type, count_in};
 
 use crate::kinds::{CLASS_TYPE, TYPE};
 use rw_base::{NodeId, Part, Tree};

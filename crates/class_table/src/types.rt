@@ -60,7 +60,8 @@ fn later_names(
 ) -> Mem<SharedList<NamePart>>
     requires node { n.0 < length tree.now.nodes }
     requires bytes { length bytes.now ≡ end_of tree.now }
-    ensures { IfOk result (λ list. list ≡ names_in (trees_of tree.now bytes.now (drop 1 (parts_of tree.now.nodes n.0)))) }
+    ensures { let t = tree.now in
+        IfOk result (λ list. list ≡ names_in (trees_of t bytes.now (drop 1 (parts_of t.nodes n.0)))) }
 {
     let parts = tree.parts(n);
     let mut out = Vec::new(alloc);

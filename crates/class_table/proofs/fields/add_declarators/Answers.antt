@@ -9,7 +9,11 @@ use Rattle.class_table.specs.Members.{declarator_node}
 use Rattle.class_table.proofs.Steps.{at_start, choose, otherwise}
 use Rattle.class_table.proofs.Gathering.{leaf_of, node_of, end_of_nodes}
 use Rattle.class_table.proofs.fields.add_declarators.Goals as goal
-use Rattle.class_table.proofs.fields.add_declarators.Goals.{in-Leaf, in-Node+then-kind-eq-DECLARATOR+in_ok-field-in-Node+in_ok-push-in-Node, in-Node+else-kind-eq-DECLARATOR}
+use Rattle.class_table.proofs.fields.add_declarators.Goals.{in-Leaf}
+use Rattle.class_table.proofs.fields.add_declarators.Goals.{
+  in-Node+then-kind-eq-DECLARATOR+in_ok-field-in-Node+in_ok-push-in-Node
+}
+use Rattle.class_table.proofs.fields.add_declarators.Goals.{in-Node+else-kind-eq-DECLARATOR}
 
 pub loop-part-init : goal.loop-part-init
 loop-part-init c =
@@ -47,12 +51,15 @@ loop-part-preserved c =
       }
       | in-Node+else-kind-eq-DECLARATOR w ↦ record {
         same = rw w.out-is (node_of g t b ps k old _ same _ w.in-Node.m _ lt w.in-Node.is
-            (sym (append-nil old) ∙ ap (λ x. old ++ x) (sym (otherwise _ _ (ne_eqb _ _ (λ e. w.if-kind-eq-DECLARATOR.false (w.kind.ensures ∙ e)))))));
+            (sym (append-nil old)
+            ∙ ap (λ x. old ++ x)
+            (sym (otherwise _ _ (ne_eqb _ _ (λ e. w.if-kind-eq-DECLARATOR.false (w.kind.ensures ∙ e)))))));
         below = below;
       }
     ]
 
 pub returns : goal.returns
 returns c =
-    end_of_nodes (declarator_node c.args.mods (parts_at c.args.tree.now c.args.bytes.now c.args.at.0)) c.args.tree.now c.args.bytes.now c.parts-parts.result.now c.loop-part.part-index
+    end_of_nodes (declarator_node c.args.mods (parts_at c.args.tree.now c.args.bytes.now c.args.at.0))
+    c.args.tree.now c.args.bytes.now c.parts-parts.result.now c.loop-part.part-index
     c.loop-part.out.items _ c.loop-part.invariant.same c.loop-part-test.false

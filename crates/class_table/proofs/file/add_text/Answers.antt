@@ -31,8 +31,8 @@ loop-part-preserved c =
         below = below;
       }
       | in-Leaf+in_ok-extend_from_slice-in-Leaf w ↦ record {
-        same = rw w.out-is (word_more text_in (λ (w : Word). w.text) (λ w f. refl) (λ n kids f. refl) refl t b ps k old _
-            same _ w.in-Leaf.i _ lt w.in-Leaf.is
+        same = rw w.out-is (word_more text_in (λ (w : Word). w.text) (λ w f. refl) (λ n kids f. refl) refl t b ps k old
+            _ same _ w.in-Leaf.i _ lt w.in-Leaf.is
             (w.in_ok-extend_from_slice-in-Leaf.ensures.items ∙ ap (λ x. old ++ x) w.text.ensures));
         below = below;
       }

@@ -36,7 +36,8 @@ loop-part-preserved c =
     let below = below_next (length t.leaves) c.args.n.0 ps k c.loop-part.invariant.below lt in
     elim c.match-part.branch [
       | in-Leaf w ↦ record {
-        same = rw (w.name-is, w.on_demand-is) (sym (ap (imported od old) (at_leaf t b ps k _ _ lt w.in-Leaf.is)) ∙ same);
+        same = rw (w.name-is, w.on_demand-is)
+            (sym (ap (imported od old) (at_leaf t b ps k _ _ lt w.in-Leaf.is)) ∙ same);
         below = below;
       }
       | in-Node+else-on_demand+then-has w ↦ record {

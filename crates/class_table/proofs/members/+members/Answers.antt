@@ -2,7 +2,8 @@ use Rattle.std.proofs.Common.{◌≡◌, ◌∙◌, ◌++◌, sym, ap, length}
 use Rattle.rw_base.specs.PartLaws.{below_next}
 use Rattle.class_table.specs.Members.{fields_in, methods_in}
 use Rattle.class_table.proofs.Steps.{at_start}
-use Rattle.class_table.proofs.MemberSteps.{fields_leaf, fields_node, fields_end, methods_leaf, methods_node, methods_end}
+use Rattle.class_table.proofs.MemberSteps.{fields_leaf, fields_node, fields_end, methods_leaf, methods_node}
+use Rattle.class_table.proofs.MemberSteps.{methods_end}
 use Rattle.class_table.proofs.members.+members.Goals as goal
 use Rattle.class_table.proofs.members.+members.Goals.{add_members-in-Leaf, add_members-in-Node+in_ok-add_node-in-Node}
 

@@ -9,7 +9,11 @@ use Rattle.class_table.specs.TypesWritten.{type_param_node}
 use Rattle.class_table.proofs.Steps.{at_start, choose, otherwise}
 use Rattle.class_table.proofs.Gathering.{leaf_of, node_of, end_of_nodes}
 use Rattle.class_table.proofs.types.each_type_param.Goals as goal
-use Rattle.class_table.proofs.types.each_type_param.Goals.{in-Leaf, in-Node+then-kind-eq-TYPE_PARAM+in_ok-type_param-in-Node+in_ok-push-in-Node, in-Node+else-kind-eq-TYPE_PARAM}
+use Rattle.class_table.proofs.types.each_type_param.Goals.{in-Leaf}
+use Rattle.class_table.proofs.types.each_type_param.Goals.{
+  in-Node+then-kind-eq-TYPE_PARAM+in_ok-type_param-in-Node+in_ok-push-in-Node
+}
+use Rattle.class_table.proofs.types.each_type_param.Goals.{in-Node+else-kind-eq-TYPE_PARAM}
 
 pub loop-part-init : goal.loop-part-init
 loop-part-init c =
@@ -47,7 +51,9 @@ loop-part-preserved c =
       }
       | in-Node+else-kind-eq-TYPE_PARAM w ↦ record {
         same = rw w.out-is (node_of g t b ps k old _ same _ w.in-Node.m _ lt w.in-Node.is
-            (sym (append-nil old) ∙ ap (λ x. old ++ x) (sym (otherwise _ _ (ne_eqb _ _ (λ e. w.if-kind-eq-TYPE_PARAM.false (w.kind.ensures ∙ e)))))));
+            (sym (append-nil old)
+            ∙ ap (λ x. old ++ x)
+            (sym (otherwise _ _ (ne_eqb _ _ (λ e. w.if-kind-eq-TYPE_PARAM.false (w.kind.ensures ∙ e)))))));
         below = below;
       }
     ]

@@ -15,7 +15,8 @@ returns-then-is_empty c =
 pub returns-in-Node : goal.returns-in-Node
 returns-in-Node c =
     sym (ap named (first_node c.args.tree.now c.args.bytes.now c.args.n.0 c.parts-parts.result.now
-    c.parts-parts.ensures.kids _ c.in-Node.field-0 (is_there (length c.parts-parts.result.now) c.if-is_empty.ensures) c.in-Node.is))
+    c.parts-parts.ensures.kids _ c.in-Node.field-0
+    (is_there (length c.parts-parts.result.now) c.if-is_empty.ensures) c.in-Node.is))
 
 pub returns-in_ok-others-in-Leaf : goal.returns-in_ok-others-in-Leaf
 returns-in_ok-others-in-Leaf c =

@@ -9,7 +9,11 @@ use Rattle.class_table.specs.TypesWritten.{type_node}
 use Rattle.class_table.proofs.Steps.{at_start, choose, otherwise}
 use Rattle.class_table.proofs.Gathering.{leaf_of, node_of, end_of_nodes}
 use Rattle.class_table.proofs.types.written_types.Goals as goal
-use Rattle.class_table.proofs.types.written_types.Goals.{in-Leaf, in-Node+then-is_type+in_ok-written-in-Node+in_ok-push-in-Node, in-Node+else-is_type}
+use Rattle.class_table.proofs.types.written_types.Goals.{in-Leaf}
+use Rattle.class_table.proofs.types.written_types.Goals.{
+  in-Node+then-is_type+in_ok-written-in-Node+in_ok-push-in-Node
+}
+use Rattle.class_table.proofs.types.written_types.Goals.{in-Node+else-is_type}
 
 pub loop-part-init : goal.loop-part-init
 loop-part-init c =
@@ -47,7 +51,9 @@ loop-part-preserved c =
       }
       | in-Node+else-is_type w ↦ record {
         same = rw w.out-is (node_of g t b ps k old _ same _ w.in-Node.m _ lt w.in-Node.is
-            (sym (append-nil old) ∙ ap (λ x. old ++ x) (sym (otherwise _ _ (ap is_type (sym w.kind.ensures) ∙ (sym w.is_type.ensures ∙ w.if-is_type.false))))));
+            (sym (append-nil old)
+            ∙ ap (λ x. old ++ x)
+            (sym (otherwise _ _ (ap is_type (sym w.kind.ensures) ∙ (sym w.is_type.ensures ∙ w.if-is_type.false))))));
         below = below;
       }
     ]
