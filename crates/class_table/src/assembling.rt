@@ -12,7 +12,9 @@ use crate::members::{Members, add_members};
 use crate::modifiers::Mods;
 use crate::parts::node_behind;
 use crate::types::{listed, name_in, type_at, type_params};
-use crate::written::{DeclaredType, ScopeParams, Written, WrittenField, WrittenMethod, WrittenParam};
+use crate::written::{
+    DeclaredType, ScopeParams, Written, WrittenField, WrittenMethod, WrittenParam,
+};
 use j_names::UnitContext;
 use java_lex::class::{EXTENDS, IMPLEMENTS};
 use jtypes::{ClassKind, Name, Names, SharedList};
@@ -65,7 +67,13 @@ fn interfaces(
     requires bytes { length bytes.now ≡ end_of tree.now }
     ensures { IfOk result (λ list. list ≡ interfaces kind (parts_at tree.now bytes.now n.0)) }
 {
-    listed(alloc, tree, bytes, node_behind(tree, n, before_interfaces(kind)), names)
+    listed(
+        alloc,
+        tree,
+        bytes,
+        node_behind(tree, n, before_interfaces(kind)),
+        names,
+    )
 }
 
 // The members of a type.
@@ -173,7 +181,13 @@ fn supers_of(
     })
 }
 
-fn assembled(kind: ClassKind, is_private: bool, place: Place, supers: Supers, members: TypeMembers) -> DeclaredType
+fn assembled(
+    kind: ClassKind,
+    is_private: bool,
+    place: Place,
+    supers: Supers,
+    members: TypeMembers,
+) -> DeclaredType
     ensures { result ≡ assembled kind is_private place supers members }
 {
     let Place {

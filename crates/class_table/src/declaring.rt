@@ -152,7 +152,13 @@ fn add_node(
 
 // The place of the types of a file.
 #[tactic(auto, unfolding(crate::specs::Files::file_context))]
-fn outermost(alloc: Global, tree: &Tree, bytes: &[u8], root: NodeId, names: &mut Names) -> Mem<Around>
+fn outermost(
+    alloc: Global,
+    tree: &Tree,
+    bytes: &[u8],
+    root: NodeId,
+    names: &mut Names,
+) -> Mem<Around>
     requires node { root.0 < length tree.now.nodes }
     requires bytes { length bytes.now ≡ end_of tree.now }
     ensures { IfOk result (λ a. a ≡ outermost (parts_at tree.now bytes.now root.0)) }

@@ -105,7 +105,13 @@ pub(crate) fn add_fields(
 }
 
 // An enum constant.
-pub(crate) fn constant(alloc: Global, tree: &Tree, bytes: &[u8], n: NodeId, names: &mut Names) -> Mem<WrittenField>
+pub(crate) fn constant(
+    alloc: Global,
+    tree: &Tree,
+    bytes: &[u8],
+    n: NodeId,
+    names: &mut Names,
+) -> Mem<WrittenField>
     requires node { n.0 < length tree.now.nodes }
     requires bytes { length bytes.now ≡ end_of tree.now }
     ensures { IfOk result (λ w. w ≡ constant (parts_at tree.now bytes.now n.0)) }

@@ -61,7 +61,13 @@ fn qualified_name(
 
 // The name of the package of a file with this root.
 #[tactic(auto, unfolding(crate::specs::Files::package_name))]
-pub(crate) fn package_name(alloc: Global, tree: &Tree, bytes: &[u8], root: NodeId, names: &mut Names) -> Mem<Name>
+pub(crate) fn package_name(
+    alloc: Global,
+    tree: &Tree,
+    bytes: &[u8],
+    root: NodeId,
+    names: &mut Names,
+) -> Mem<Name>
     requires node { root.0 < length tree.now.nodes }
     requires bytes { length bytes.now ≡ end_of tree.now }
     ensures { IfOk result (λ name. name ≡ package_name (parts_at tree.now bytes.now root.0)) }
@@ -73,7 +79,13 @@ pub(crate) fn package_name(alloc: Global, tree: &Tree, bytes: &[u8], root: NodeI
 }
 
 // What stands behind the first identifier of an import, appended to it.
-fn imported(alloc: Global, tree: &Tree, bytes: &[u8], n: NodeId, first: Vec<u8>) -> Mem<Option<ImportName>>
+fn imported(
+    alloc: Global,
+    tree: &Tree,
+    bytes: &[u8],
+    n: NodeId,
+    first: Vec<u8>,
+) -> Mem<Option<ImportName>>
     requires node { n.0 < length tree.now.nodes }
     requires bytes { length bytes.now ≡ end_of tree.now }
     ensures { IfOk result (λ i. i ≡ imported false first.items (parts_at tree.now bytes.now n.0)) }
@@ -101,7 +113,13 @@ fn imported(alloc: Global, tree: &Tree, bytes: &[u8], n: NodeId, first: Vec<u8>)
 }
 
 #[tactic(auto, unfolding(crate::specs::Files::import_of))]
-fn import_of(alloc: Global, tree: &Tree, bytes: &[u8], n: NodeId, names: &mut Names) -> Mem<Option<ImportRow>>
+fn import_of(
+    alloc: Global,
+    tree: &Tree,
+    bytes: &[u8],
+    n: NodeId,
+    names: &mut Names,
+) -> Mem<Option<ImportRow>>
     requires node { n.0 < length tree.now.nodes }
     requires bytes { length bytes.now ≡ end_of tree.now }
     ensures { IfOk result (λ row. option_to_list row ≡ import_of (parts_at tree.now bytes.now n.0)) }
@@ -146,7 +164,13 @@ fn add_import(
     }
 }
 
-fn imports_in(alloc: Global, tree: &Tree, bytes: &[u8], n: NodeId, names: &mut Names) -> Mem<Vec<ImportRow>>
+fn imports_in(
+    alloc: Global,
+    tree: &Tree,
+    bytes: &[u8],
+    n: NodeId,
+    names: &mut Names,
+) -> Mem<Vec<ImportRow>>
     requires node { n.0 < length tree.now.nodes }
     requires bytes { length bytes.now ≡ end_of tree.now }
     ensures { IfOk result (λ v. v.items ≡ imports_in (parts_at tree.now bytes.now n.0)) }

@@ -93,7 +93,15 @@ fn add_node(
 {
     let form = tree.kind(m);
     if form == MEMBER_REST {
-        add_fields(alloc, tree, bytes, m, static_in(kind, mods), names, &mut out.fields)?;
+        add_fields(
+            alloc,
+            tree,
+            bytes,
+            m,
+            static_in(kind, mods),
+            names,
+            &mut out.fields,
+        )?;
         add_method(alloc, tree, bytes, m, mods, names, &mut out.methods)?;
         return Ok(());
     }

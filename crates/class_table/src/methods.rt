@@ -46,7 +46,11 @@ pub(crate) fn headed(tree: &Tree, n: NodeId) -> NodeId
     ensures parts { (bytes : List ℕ) → parts_at tree.now bytes result.0 ≡ headed (parts_at tree.now bytes n.0) }
     ensures inside { result.0 ≤ n.0 }
 {
-    opened(tree, opened(tree, typed(tree, n), AFTER_GENERIC), AFTER_TYPE)
+    opened(
+        tree,
+        opened(tree, typed(tree, n), AFTER_GENERIC),
+        AFTER_TYPE,
+    )
 }
 
 // How many dimensions stand behind the type of a parameter.
@@ -67,7 +71,13 @@ fn param(alloc: Global, tree: &Tree, bytes: &[u8], n: NodeId, names: &mut Names)
     type_of(alloc, tree, bytes, n, dims_behind(tree, n), names)
 }
 
-fn params_in(alloc: Global, tree: &Tree, bytes: &[u8], n: NodeId, names: &mut Names) -> Mem<Vec<Written>>
+fn params_in(
+    alloc: Global,
+    tree: &Tree,
+    bytes: &[u8],
+    n: NodeId,
+    names: &mut Names,
+) -> Mem<Vec<Written>>
     requires node { n.0 < length tree.now.nodes }
     requires bytes { length bytes.now ≡ end_of tree.now }
     ensures { IfOk result (λ v. v.items ≡ params_in (parts_at tree.now bytes.now n.0)) }

@@ -7,7 +7,7 @@ ghost use Rattle.class_table.specs.TypesWritten.{prim_named, names_in, named, ba
 ghost use Rattle.class_table.specs.TypesWritten.{type_at, listed, type_param, each_type_param};
 ghost use Rattle.class_table.specs.TypesWritten.{type_params};
 
-use crate::kinds::{DIMENSIONS, TYPES, TYPE_PARAM, TYPE_PARAMS};
+use crate::kinds::{DIMENSIONS, TYPE_PARAM, TYPE_PARAMS, TYPES};
 use crate::parts::{count_in, is_type, node_in, type_in, word_in};
 use crate::written::{Base, NamePart, Written, WrittenParam};
 use java_lex::class::{ID, PRIM};
@@ -39,7 +39,13 @@ fn prim_named(text: &[u8]) -> JPrim
 }
 
 // The first identifier, the empty name where there is none.
-pub(crate) fn name_in(alloc: Global, tree: &Tree, bytes: &[u8], n: NodeId, names: &mut Names) -> Mem<Name>
+pub(crate) fn name_in(
+    alloc: Global,
+    tree: &Tree,
+    bytes: &[u8],
+    n: NodeId,
+    names: &mut Names,
+) -> Mem<Name>
     requires node { n.0 < length tree.now.nodes }
     requires bytes { length bytes.now ≡ end_of tree.now }
     ensures { IfOk result (λ name. name ≡ name_in (parts_at tree.now bytes.now n.0)) }
@@ -161,7 +167,13 @@ pub(crate) fn type_of(
     }
 }
 
-fn written_types(alloc: Global, tree: &Tree, bytes: &[u8], n: NodeId, names: &mut Names) -> Mem<Vec<Written>>
+fn written_types(
+    alloc: Global,
+    tree: &Tree,
+    bytes: &[u8],
+    n: NodeId,
+    names: &mut Names,
+) -> Mem<Vec<Written>>
     requires node { n.0 < length tree.now.nodes }
     requires bytes { length bytes.now ≡ end_of tree.now }
     ensures { IfOk result (λ v. v.items ≡ written_types (parts_at tree.now bytes.now n.0)) }
@@ -223,7 +235,13 @@ pub(crate) fn type_at(
     }
 }
 
-fn type_param(alloc: Global, tree: &Tree, bytes: &[u8], n: NodeId, names: &mut Names) -> Mem<WrittenParam>
+fn type_param(
+    alloc: Global,
+    tree: &Tree,
+    bytes: &[u8],
+    n: NodeId,
+    names: &mut Names,
+) -> Mem<WrittenParam>
     requires node { n.0 < length tree.now.nodes }
     requires bytes { length bytes.now ≡ end_of tree.now }
     ensures { IfOk result (λ p. p ≡ type_param (parts_at tree.now bytes.now n.0)) }

@@ -11,7 +11,7 @@ use Rattle.class_table.proofs.Gathering.{leaf_of, node_of, end_of_nodes}
 use Rattle.class_table.proofs.fields.add_declarators.Goals as goal
 use Rattle.class_table.proofs.fields.add_declarators.Goals.{in-Leaf}
 use Rattle.class_table.proofs.fields.add_declarators.Goals.{
-  in-Node+then-kind-eq-DECLARATOR+in_ok-field-in-Node+in_ok-push-in-Node
+  in-Node+then-kind-eq-DECLARATOR+in_ok-field-in-Node+in_ok-push-in-Node,
 }
 use Rattle.class_table.proofs.fields.add_declarators.Goals.{in-Node+else-kind-eq-DECLARATOR}
 
@@ -21,7 +21,7 @@ loop-part-init c =
     let g = declarator_node c.args.mods (parts_at c.args.tree.now c.args.bytes.now c.args.at.0) in
     record {
       same = ap (λ x. c.args.out.now.items ++ of_nodes g x)
-      (sym (at_start t c.args.bytes.now c.args.n.0 _ c.parts-parts.ensures.kids));
+          (sym (at_start t c.args.bytes.now c.args.n.0 _ c.parts-parts.ensures.kids));
       below = c.parts-parts.ensures.below;
     }
 

@@ -11,7 +11,7 @@ use Rattle.class_table.proofs.Gathering.{leaf_of, node_of, end_of_nodes}
 use Rattle.class_table.proofs.types.written_types.Goals as goal
 use Rattle.class_table.proofs.types.written_types.Goals.{in-Leaf}
 use Rattle.class_table.proofs.types.written_types.Goals.{
-  in-Node+then-is_type+in_ok-written-in-Node+in_ok-push-in-Node
+  in-Node+then-is_type+in_ok-written-in-Node+in_ok-push-in-Node,
 }
 use Rattle.class_table.proofs.types.written_types.Goals.{in-Node+else-is_type}
 
@@ -21,7 +21,7 @@ loop-part-init c =
     let g = type_node in
     record {
       same = ap (λ x. x ++ of_nodes g (trees_of t c.args.bytes.now c.parts-parts.result.now)) c.new-out.ensures.items
-      ∙ ap (of_nodes g) (sym (at_start t c.args.bytes.now c.args.n.0 _ c.parts-parts.ensures.kids));
+          ∙ ap (of_nodes g) (sym (at_start t c.args.bytes.now c.args.n.0 _ c.parts-parts.ensures.kids));
       below = c.parts-parts.ensures.below;
     }
 
