@@ -1,0 +1,6 @@
+pub mod Steps
+pub mod Gathering
+pub mod FirstParts
+pub mod NameWords
+pub mod MemberSteps
+pub mod TypeSteps

@@ -1,0 +1,40 @@
+//! The declared types of a Java file as they are written: what a world of classes is built of.
+//!
+//! ```text
+//! let mut names = Names::new(alloc);                            // for a file or a worker
+//! let tree = reader.read(bytes, &mut steps)?;
+//! let skeleton = skeleton(alloc, &tree, bytes, &mut names)?;
+//! for declared in skeleton.types.as_slice() { .. }              // each type before those in it
+//! ```
+//!
+//! The promise. `skeleton` gives exactly the list `skeleton_of` of the tree that it is called with (clause `types`):
+//! each class, interface, enum and annotation type of the file and each member type of these, with its qualified name,
+//! its place, its type parameters, its supertypes, its fields and its methods, all as written, and no local or
+//! anonymous class. Nothing is asked of the tree but that these are its bytes. Names are kept once each, and lists that
+//! types have in common are shared. It takes time in proportion to the declarations: bodies of methods and
+//! initializers aren't entered.
+//!
+//! The definitions in specs/, in this order: `Words` (the tree as plain data, whose leaves are words), `Finding` (words
+//! and nodes among the parts of a node), `TypesWritten`, `Members`, `Files` (package and imports) and `Declarations`,
+//! which ends in `skeleton_of`. They are recursions over the plain tree. The shapes of nodes are those of the table in
+//! java_reader, where a rule with a single node as its part leaves no node of its own.
+#![tactic(auto)]
+
+mod around;
+mod assembling;
+mod declaring;
+mod fields;
+mod file;
+mod kinds;
+mod members;
+mod methods;
+mod modifiers;
+mod parts;
+mod types;
+mod written;
+
+pub use declaring::skeleton;
+pub use written::{
+    Base, DeclaredType, NamePart, ScopeParams, Skeleton, Written, WrittenField, WrittenMethod,
+    WrittenParam,
+};
