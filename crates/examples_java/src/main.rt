@@ -2,8 +2,9 @@
 //! units of files, their calls, and the types that they declare. The program reads cases and writes each with its
 //! answer, and the file `stdout` holds what it must write (see `examples_base`).
 //!
-//! `reads` calls the reader, `trees` writes what it gives, `units` what is in a file, and `declared` its declared types,
-//! with `written` for what these consist of. What is proved of a call stands in `java_reader` and `class_table`.
+//! `reads` calls the reader, `trees` writes what it gives, `units` what is in a file, and `declared` the types that it
+//! declares, with `written` for what these consist of. What is proved of a call stands in `java_reader` and
+//! `class_table`.
 #![tactic(auto)]
 
 mod declared;
