@@ -1,14 +1,17 @@
 //! Worked examples of reading Java: what files, members and expressions are read into or why they are refused, the
-//! units of files, and their calls. The program reads cases and writes each with its answer, and the file `stdout`
-//! holds what it must write (see `examples_base`).
+//! units of files, their calls, and the types that they declare. The program reads cases and writes each with its
+//! answer, and the file `stdout` holds what it must write (see `examples_base`).
 //!
-//! `reads` calls the reader, `trees` writes what it gives, and `units` what is in a file. What is proved of a call
-//! stands in `java_reader`.
+//! `reads` calls the reader, `trees` writes what it gives, `units` what is in a file, and `declared` the types that it
+//! declares, with `written` for what these consist of. What is proved of a call stands in `java_reader` and
+//! `class_table`.
 #![tactic(auto)]
 
+mod declared;
 mod reads;
 mod trees;
 mod units;
+mod written;
 
 use crate::reads::What;
 use examples_base::{Answer, Lines, Stop, text_of};
@@ -41,6 +44,7 @@ fn put_text_answer(
         "files, members, expressions" => trees::put_reads(reader, text, out),
         "units" => units::put_units(alloc, reader, text, out),
         "calls" => units::put_calls(alloc, reader, text, out),
+        "declared types" => declared::put_declared(alloc, reader, text, out),
         _ => out.refuse("heading"),
     }
 }
