@@ -16,7 +16,11 @@ use std::alloc::Global;
 
 // Writes an import.
 fn put_import(row: &ImportRow, out: &mut Answer) {
-    out.put(if row.is_static { "import static " } else { "import " });
+    out.put(if row.is_static {
+        "import static "
+    } else {
+        "import "
+    });
     put_name(&row.name, out);
     out.put(if row.on_demand { ".*; " } else { "; " });
 }
@@ -69,7 +73,12 @@ fn put_around(class: &EnclosingClass, scope: &ScopeParams, out: &mut Answer) {
     if class.type_params.len() != scope.params.len() {
         out.refuse("type parameters");
     }
-    for (name, param) in class.type_params.as_slice().iter().zip(scope.params.as_slice()) {
+    for (name, param) in class
+        .type_params
+        .as_slice()
+        .iter()
+        .zip(scope.params.as_slice())
+    {
         if !name.is(&param.name) {
             out.refuse("type parameter");
         }

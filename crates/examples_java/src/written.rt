@@ -97,7 +97,11 @@ pub fn put_field(field: &WrittenField, out: &mut Answer) {
 pub fn put_method(method: &WrittenMethod, out: &mut Answer) {
     put_modifiers(method.is_private, method.is_static, out);
     put_params(method.type_params.as_slice(), out);
-    out.put(if method.type_params.len() > 0 { " " } else { "" });
+    out.put(if method.type_params.len() > 0 {
+        " "
+    } else {
+        ""
+    });
     put_type(&method.result, out);
     out.put(" ");
     put_name(&method.name, out);
