@@ -12,7 +12,11 @@
 //! reads as one thing (`a_file_reads_as_one_thing`), so that crates above may speak of what a file reads as as of a
 //! function `read` that is told by `AreReadings` alone (`read_file`, clause `same`).
 //!
-//! The definitions in specs/: `Kinds` (kinds by paths), `Readings` (what a file reads as).
+//! Recipes see a repository by `KeptFiles`, its files with what they read as, or by `KeptView`, with what is known of
+//! the names and expressions of Java files, too.
+//!
+//! The definitions in specs/: `Kinds` (kinds by paths), `Readings` (what a file reads as), `States` (files in the order
+//! of their paths), `FileEdits` (a file with edits), `Views` (what is kept of the units of Java files).
 #![tactic(auto)]
 
 mod file;
@@ -23,6 +27,7 @@ mod readers;
 mod reading;
 mod scan_value;
 mod state;
+mod view;
 
 pub use file::KeptFile;
 pub use kind::{FileKind, is_source, kind_of};
@@ -32,3 +37,4 @@ pub use readers::Readers;
 pub use reading::Reading;
 pub use scan_value::ScanValue;
 pub use state::{KeptFiles, has_path, held_bytes, properties_in, put_file, yaml_in};
+pub use view::KeptView;
