@@ -160,6 +160,10 @@ variable_meant cx frames n = first_found (
 unfoldable pub type_named : UnitContext → List Frame → List ℕ → Rule Symbol
 type_named cx frames n = bind (type_meant cx frames n) (λ s. done (or_else Unknown s))
 
+-- in front of a dot in a type position (6.5.4.1): a type, else a package of one part
+unfoldable pub type_or_package : UnitContext → List Frame → List ℕ → Rule Symbol
+type_or_package cx frames n = bind (type_meant cx frames n) (λ s. done (or_else (Package n) s))
+
 unfoldable pub variable_named : UnitContext → List Frame → List ℕ → Rule Symbol
 variable_named cx frames n = bind (variable_meant cx frames n) (λ s. done (or_else Unknown s))
 

@@ -8,19 +8,10 @@ ghost use Rattle.j_names.specs.Names.{top_around, or_else};
 use crate::context::UnitContext;
 use crate::members::{field_of, joined, member_type_of, type_at};
 use crate::places::top_around;
-use crate::types::or_unknown;
+use crate::types::{or_package, or_unknown};
 use jtypes::{Asks, Classes, JPrim, JType, Name, Symbol};
 use rw_base::Mem;
 use std::alloc::Global;
-
-fn or_package(found: Option<Symbol>, name: Name) -> Symbol
-    ensures { result ≡ or_else (Symbol.Package name) found }
-{
-    match found {
-        Some(s) => s,
-        None => Symbol::Package(name),
-    }
-}
 
 /// What a name behind a package means (JLS 6.5.3.2, 6.5.5.2), with its question put to `asks`: the type of that
 /// qualified name where it is there and isn't private elsewhere, else a package.

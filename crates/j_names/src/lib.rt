@@ -13,12 +13,13 @@
 //!
 //! Each function of a name `.._asking` follows a rule of `specs/`, and its clause `told` says so exactly: it gives what
 //! the rule gives, and it puts the questions of the rule to the set, no more and no less (`Told` of dialogue). Simple
-//! names are `type_named`, `variable_named` and `meaning_of`; behind a dot `behind_package`, `behind_type`,
-//! `field_behind` and, in a type position, `type_behind`; calls `called`, `methods_behind` and `methods_of`, whose
-//! hidden methods `candidates` leaves out; creations `constructors_of`, `superclass_of` and `super_of`. The three of
-//! simple names have a form without questions, too (`gives`). In a world that answers alike what was asked, the meaning
-//! and its questions are the same (`equal_answers_give_equal_meanings`, `equal_answers_give_equal_walks`), so that a
-//! name must be judged again only where an answer to one of its questions has changed.
+//! names are `type_named`, `variable_named` and `meaning_of`; behind a dot `behind_package`, `behind_type` and
+//! `field_behind`, and in a type position `type_or_package` in front of a dot and `type_behind` behind it; calls
+//! `called`, `methods_behind` and `methods_of`, whose hidden methods `candidates` leaves out; creations
+//! `constructors_of`, `superclass_of` and `super_of`. The three of simple names have a form without questions, too
+//! (`gives`). In a world that answers alike what was asked, the meaning and its questions are the same
+//! (`equal_answers_give_equal_meanings`, `equal_answers_give_equal_walks`), so that a name must be judged again only
+//! where an answer to one of its questions has changed.
 //!
 //! Read `specs/Walk.antt` first (the walk over a class and what it inherits), then `Members` (what walks look for, and
 //! which members count), `Names` (simple names, from the innermost scope outward), `Dots` and `Calls`. `Scopes` says
@@ -61,5 +62,5 @@ pub use laws::{equal_answers_give_equal_meanings, equal_answers_give_equal_walks
 pub use meaning::{meaning_of, meaning_of_asking};
 pub use packages::OnDemand;
 pub use receivers::{methods_behind_asking, methods_of_asking};
-pub use types::{type_named, type_named_asking};
+pub use types::{type_named, type_named_asking, type_or_package_asking};
 pub use variables::{variable_named, variable_named_asking};

@@ -5,7 +5,7 @@ ghost use Rattle.dialogue.specs.Dialogue.{run, first_found};
 ghost use Rattle.dialogue.specs.Told.{Told};
 ghost use Rattle.jtypes.specs.World.{name_eq};
 ghost use Rattle.j_names.specs.Names.{type_in_frame, type_in_class, type_meant, type_named, last_part, outward};
-ghost use Rattle.j_names.specs.Names.{inherited_type, or_else};
+ghost use Rattle.j_names.specs.Names.{inherited_type, or_else, type_or_package};
 
 use crate::context::{EnclosingClass, Frame, UnitContext};
 use crate::frames::Frames;
@@ -217,6 +217,17 @@ pub(crate) fn type_meant<C: Classes>(
     Ok(s)
 }
 
+/// What is found, else a package.
+pub(crate) fn or_package(found: Option<Symbol>, name: Name) -> Symbol
+    ensures { result ≡ or_else (Symbol.Package name) found }
+{
+    match found {
+        Some(s) => s,
+        None => Symbol::Package(name),
+    }
+}
+
+/// What is found, else Unknown.
 pub(crate) fn or_unknown(found: Option<Symbol>) -> Symbol
     ensures { result ≡ or_else Symbol.Unknown found }
 {
@@ -241,6 +252,24 @@ pub fn type_named_asking<C: Classes>(
 {
     let found = type_meant(alloc, cx, frames, name, c, asks)?;
     Ok(or_unknown(found))
+}
+
+/// What a simple name in front of a dot in a type position means (JLS 6.5.4.1), with the questions that decide it put to
+/// `asks`: a type, else a package of one part.
+pub fn type_or_package_asking<C: Classes>(
+    alloc: Global,
+    cx: &UnitContext,
+    frames: &Frames,
+    name: &Name,
+    c: &C,
+    asks: &mut Asks,
+) -> Mem<Symbol>
+    ensures told { IfOk result (λ s.
+        Told (type_or_package cx.now frames.now name.now) (C.world c.now) asks.old asks.new s) }
+{
+    let package = name.copy()?;
+    let found = type_meant(alloc, cx, frames, name, c, asks)?;
+    Ok(or_package(found, package))
 }
 
 /// What a simple name means as a type (JLS 6.5.5.1): Unknown where no type has the name, or only a local class.
