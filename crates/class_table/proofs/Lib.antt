@@ -4,3 +4,4 @@ pub mod FirstParts
 pub mod NameWords
 pub mod MemberSteps
 pub mod TypeSteps
+pub mod Added

@@ -7,8 +7,8 @@ use Rattle.rw_base.specs.Arena.{Arena, kind_of}
 use Rattle.rw_base.specs.Trees.{none, leaf, node}
 use Rattle.jtypes.specs.declared.signatures.ClassKind.{ClassKind}
 use Rattle.class_table.specs.declared.modifiers.Mods.{Mods}
-use Rattle.class_table.specs.declared.written.WrittenField.{WrittenField}
-use Rattle.class_table.specs.declared.written.WrittenMethod.{WrittenMethod}
+use Rattle.declared_types.specs.declared.written.WrittenField.{WrittenField}
+use Rattle.declared_types.specs.declared.written.WrittenMethod.{WrittenMethod}
 use Rattle.class_table.specs.Words.{Word, Parts, parts_at, trees_of}
 use Rattle.class_table.specs.Members.{mods_inside, fields_in, methods_in, node_fields, node_methods}
 use Rattle.class_table.proofs.Gathering.{over_leaf, over_node, over_end}

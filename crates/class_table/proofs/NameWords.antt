@@ -2,7 +2,7 @@
 use Rattle.std.proofs.Common.{◌≡◌, ◌++◌, ◌==◌, List, [], ◌∷◌, Bool, true, false, refl, if◌then◌else◌}
 use Rattle.rw_base.specs.Trees.{leaf}
 use Rattle.java_lex.specs.declared.class.TheConstants.{ID}
-use Rattle.class_table.specs.declared.written.NamePart.{NamePart}
+use Rattle.declared_types.specs.declared.written.NamePart.{NamePart}
 use Rattle.class_table.specs.Words.{Word, Parts}
 use Rattle.class_table.specs.TypesWritten.{names_in, part_of_name}
 

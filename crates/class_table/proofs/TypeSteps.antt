@@ -8,7 +8,7 @@ use Rattle.rw_base.specs.declared.tree.Part.TheVariants as part
 use Rattle.rw_base.specs.Arena.{Arena, kind_of}
 use Rattle.rw_base.specs.Trees.{none, leaf, node}
 use Rattle.class_table.specs.declared.around.Around.{Around}
-use Rattle.class_table.specs.declared.written.DeclaredType.{DeclaredType}
+use Rattle.declared_types.specs.declared.written.DeclaredType.{DeclaredType}
 use Rattle.class_table.specs.Words.{Word, Parts, parts_at, trees_of}
 use Rattle.class_table.specs.Declarations.{class_kind, around_in, private_inside, node_types, types_in}
 use Rattle.class_table.specs.Declarations.{inside, qualified, declared, holds_types}

@@ -5,7 +5,7 @@ use Rattle.class_table.specs.declared.around.Around.{Around}
 use Rattle.class_table.specs.declared.assembling.Place.{Place}
 use Rattle.class_table.specs.declared.assembling.Supers.{Supers}
 use Rattle.class_table.specs.declared.assembling.TypeMembers.{TypeMembers}
-use Rattle.class_table.specs.declared.written.DeclaredType.{DeclaredType}
+use Rattle.declared_types.specs.declared.written.DeclaredType.{DeclaredType}
 use Rattle.class_table.specs.Declarations.{or_itself}
 
 abbrev pub place_of : Around → List ℕ → Place

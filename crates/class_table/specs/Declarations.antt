@@ -1,19 +1,20 @@
 -- The declared types of a file (JLS 7.6, 8.1, 8.5, 8.9, 9.1, 9.5, 9.6): those of the file and the members of these.
 -- Local and anonymous classes are no declared types.
 use Rattle.std.specs.Prelude.{ℕ, ◌==◌, Bool, true, false, ◌||◌, ◌&&◌, List, [], ◌∷◌, ◌++◌, map, Option, None, Some}
-use Rattle.std.specs.Prelude.{if◌then◌else◌, codes}
+use Rattle.std.specs.Prelude.{if◌then◌else◌}
 use Rattle.rw_base.specs.Trees.{none, leaf, node}
 use Rattle.java_lex.specs.declared.class.TheConstants.{EXTENDS, IMPLEMENTS, PRIVATE}
 use Rattle.jtypes.specs.declared.signatures.ClassKind.{ClassKind}
 use Rattle.jtypes.specs.declared.signatures.ClassKind.TheVariants as kind
 use Rattle.j_names.specs.declared.context.EnclosingClass.{EnclosingClass}
+use Rattle.j_names.specs.Members.{joined}
 use Rattle.class_table.specs.declared.kinds.TheConstants.{CLASS, INTERFACE, ENUM, ANNOTATION_TYPE}
 use Rattle.class_table.specs.declared.kinds.TheConstants.{TYPE_DECL, MEMBER, BODY}
 use Rattle.class_table.specs.declared.around.Around.{Around}
-use Rattle.class_table.specs.declared.written.Written.{Written}
-use Rattle.class_table.specs.declared.written.WrittenParam.{WrittenParam}
-use Rattle.class_table.specs.declared.written.ScopeParams.{ScopeParams}
-use Rattle.class_table.specs.declared.written.DeclaredType.{DeclaredType}
+use Rattle.declared_types.specs.declared.written.Written.{Written}
+use Rattle.declared_types.specs.declared.written.WrittenParam.{WrittenParam}
+use Rattle.declared_types.specs.declared.written.ScopeParams.{ScopeParams}
+use Rattle.declared_types.specs.declared.written.DeclaredType.{DeclaredType}
 use Rattle.class_table.specs.Words.{Parts}
 use Rattle.class_table.specs.Finding.{name_in, node_behind}
 use Rattle.class_table.specs.TypesWritten.{type_at, listed, type_params}
@@ -22,11 +23,7 @@ use Rattle.class_table.specs.Files.{package_name, file_context}
 
 -- ---- names (JLS 6.7)
 
--- a name behind a package or type; the unnamed package has the empty name
-abbrev pub joined : List ℕ → List ℕ → List ℕ
-joined [] name = name
-joined (c ∷ cs) name = (c ∷ cs) ++ (codes "." ++ name)
-
+-- the name of a type by its own and that of the package or type around it
 unfoldable pub qualified : Around → Parts → List ℕ
 qualified a ps = joined a.within (name_in ps)
 

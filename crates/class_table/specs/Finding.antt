@@ -1,6 +1,6 @@
 -- Finding words and nodes among the parts of a node, not in the parts of these.
 use Rattle.std.specs.Prelude.{ℕ, ◌+◌, ◌==◌, ◌||◌, List, [], ◌∷◌, ◌++◌, Bool, true, false, Option, None, Some}
-use Rattle.std.specs.Prelude.{if◌then◌else◌}
+use Rattle.std.specs.Prelude.{is_some, if◌then◌else◌}
 use Rattle.rw_base.specs.declared.tree.NodeId.{NodeId}
 use Rattle.rw_base.specs.Arena.{Arena, kind_of, leaf_at, text_of}
 use Rattle.rw_base.specs.Trees.{none, leaf, node}
@@ -13,10 +13,6 @@ abbrev pub word_in : ℕ → Parts → Option Word
 word_in c none = None
 word_in c (leaf w f) = if w.class == c then Some w else word_in c f
 word_in c (node _ k kids f) = word_in c f
-
-abbrev pub is_some : {A : Type 0} → Option A → Bool
-is_some None = false
-is_some (Some x) = true
 
 abbrev pub text_or_empty : Option Word → List ℕ
 text_or_empty None = []

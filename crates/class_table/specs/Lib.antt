@@ -5,3 +5,4 @@ pub mod Members
 pub mod Files
 pub mod Declarations
 pub mod Assembling
+pub mod Stubs

@@ -1,19 +1,20 @@
 -- The members that a body declares (JLS 8.2, 8.3, 8.4, 8.8, 8.9.1, 9.3, 9.4).
 use Rattle.std.specs.Prelude.{ℕ, ◌+◌, ◌==◌, Bool, true, false, ◌||◌, ◌&&◌, List, [], ◌∷◌, ◌++◌, Option, None, Some}
-use Rattle.std.specs.Prelude.{if◌then◌else◌, codes}
+use Rattle.std.specs.Prelude.{if◌then◌else◌}
 use Rattle.rw_base.specs.Trees.{none, leaf, node}
 use Rattle.java_lex.specs.declared.class.TheConstants.{ID, STATIC, PRIVATE, ELLIPSIS}
 use Rattle.jtypes.specs.declared.signatures.ClassKind.{ClassKind}
 use Rattle.jtypes.specs.declared.signatures.ClassKind.TheVariants as kind
+use Rattle.j_names.specs.Calls.{constructor_name}
 use Rattle.class_table.specs.declared.kinds.TheConstants.{MODIFIER, GENERIC, AFTER_GENERIC, AFTER_TYPE, METHOD, FIELD}
 use Rattle.class_table.specs.declared.kinds.TheConstants.{DECLARATOR, PARAM, DIMENSIONS, BODY, MEMBER, MEMBER_REST}
 use Rattle.class_table.specs.declared.kinds.TheConstants.{ENUM_CONSTANT}
 use Rattle.class_table.specs.declared.modifiers.Mods.{Mods}
-use Rattle.class_table.specs.declared.written.Base.TheVariants as base
-use Rattle.class_table.specs.declared.written.Written.{Written}
-use Rattle.class_table.specs.declared.written.WrittenField.{WrittenField}
-use Rattle.class_table.specs.declared.written.WrittenMethod.{WrittenMethod}
-use Rattle.class_table.specs.declared.written.WrittenParam.{WrittenParam}
+use Rattle.declared_types.specs.declared.written.Base.TheVariants as base
+use Rattle.declared_types.specs.declared.written.Written.{Written}
+use Rattle.declared_types.specs.declared.written.WrittenField.{WrittenField}
+use Rattle.declared_types.specs.declared.written.WrittenMethod.{WrittenMethod}
+use Rattle.declared_types.specs.declared.written.WrittenParam.{WrittenParam}
 use Rattle.class_table.specs.Words.{Parts}
 use Rattle.class_table.specs.Finding.{Node, has, name_in, node_in, count_in, of_nodes}
 use Rattle.class_table.specs.TypesWritten.{void, type_of, type_params}
@@ -73,10 +74,6 @@ abbrev pub varargs_in : Bool → Parts → Bool
 varargs_in last none = last
 varargs_in last (leaf w f) = varargs_in last f
 varargs_in last (node _ k kids f) = varargs_in (if k == PARAM then has ELLIPSIS kids else last) f
-
--- the name of a constructor
-unfoldable pub constructor_name : List ℕ
-constructor_name = codes "<constructor>"
 
 abbrev pub method_name : Bool → Parts → List ℕ
 method_name is_named ps = if is_named then name_in ps else constructor_name

@@ -6,11 +6,11 @@ use Rattle.java_lex.specs.declared.class.TheConstants.{ID, PRIM}
 use Rattle.jtypes.specs.declared.types.JPrim.{JPrim}
 use Rattle.jtypes.specs.declared.types.JPrim.TheVariants as prim
 use Rattle.class_table.specs.declared.kinds.TheConstants.{TYPE, CLASS_TYPE, TYPES, TYPE_PARAMS, TYPE_PARAM, DIMENSIONS}
-use Rattle.class_table.specs.declared.written.NamePart.{NamePart}
-use Rattle.class_table.specs.declared.written.Base.{Base}
-use Rattle.class_table.specs.declared.written.Base.TheVariants as base
-use Rattle.class_table.specs.declared.written.Written.{Written}
-use Rattle.class_table.specs.declared.written.WrittenParam.{WrittenParam}
+use Rattle.declared_types.specs.declared.written.NamePart.{NamePart}
+use Rattle.declared_types.specs.declared.written.Base.{Base}
+use Rattle.declared_types.specs.declared.written.Base.TheVariants as base
+use Rattle.declared_types.specs.declared.written.Written.{Written}
+use Rattle.declared_types.specs.declared.written.WrittenParam.{WrittenParam}
 use Rattle.class_table.specs.Words.{Parts}
 use Rattle.class_table.specs.Finding.{Node, name_in, node_in, type_in, is_type, count_in, of_nodes}
 

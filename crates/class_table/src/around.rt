@@ -1,8 +1,9 @@
 // What is around a declaration.
 ghost use Rattle.std.specs.Prelude.{◌≡◌, ◌++◌, ◌∷◌, [], map, IfOk};
-ghost use Rattle.class_table.specs.Declarations.{joined, or_itself, enclosing_class, scope_of, inside};
+ghost use Rattle.j_names.specs.Members.{joined};
+ghost use Rattle.class_table.specs.Declarations.{or_itself, enclosing_class, scope_of, inside};
 
-use crate::written::{ScopeParams, WrittenParam};
+use declared_types::{ScopeParams, WrittenParam};
 use j_names::{EnclosingClass, UnitContext};
 use jtypes::{Name, Names, SharedList};
 use rw_base::Mem;
@@ -27,7 +28,7 @@ pub(crate) fn joined(alloc: Global, before: &Name, name: &Name, names: &mut Name
         return name.copy();
     }
     let mut text = Vec::from_slice(alloc, before)?;
-    text.extend_from_slice(b".")?;
+    text.push(b'.')?;
     text.extend_from_slice(name.as_slice())?;
     names.name(alloc, &text)
 }

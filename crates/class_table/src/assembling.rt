@@ -12,7 +12,7 @@ use crate::members::{Members, add_members};
 use crate::modifiers::Mods;
 use crate::parts::node_behind;
 use crate::types::{listed, name_in, type_at, type_params};
-use crate::written::{
+use declared_types::{
     DeclaredType, ScopeParams, Written, WrittenField, WrittenMethod, WrittenParam,
 };
 use j_names::UnitContext;

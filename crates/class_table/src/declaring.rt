@@ -12,7 +12,7 @@ use crate::assembling::declared;
 use crate::file::file_context;
 use crate::kinds::{ANNOTATION_TYPE, BODY, CLASS, ENUM, INTERFACE, MEMBER, TYPE_DECL};
 use crate::modifiers::says;
-use crate::written::{DeclaredType, Skeleton};
+use declared_types::{DeclaredType, Skeleton};
 use java_lex::class::PRIVATE;
 use jtypes::{ClassKind, Names, SharedList};
 use rw_base::{Mem, NodeId, Part, Tree};
@@ -172,18 +172,34 @@ fn outermost(
     })
 }
 
+// Appends the declared types of a file.
+#[tactic(auto, unfolding(crate::specs::Declarations::skeleton_of))]
+pub(crate) fn add_declared(
+    alloc: Global,
+    tree: &Tree,
+    bytes: &[u8],
+    names: &mut Names,
+    out: &mut Vec<DeclaredType>,
+) -> Mem<()>
+    requires bytes { length bytes.now ≡ end_of tree.now }
+    ensures { let more = skeleton_of (parts_at tree.now bytes.now tree.now.root) in
+        OnOk result (out.new.items ≡ out.old.items ++ more) }
+{
+    let root = tree.root();
+    let around = outermost(alloc, tree, bytes, root, names)?;
+    add_types(alloc, tree, bytes, root, &around, false, names, out)?;
+    Ok(())
+}
+
 /// The skeleton of a Java file: its declared types as written, in the order of the text (JLS 7.6, 8.1, 8.5, 8.9, 9.1,
 /// 9.5, 9.6). `bytes` are those that `tree` was read from, and `names` keeps the names. It goes over the tree of the
 /// declarations and enters no body of a method. Refused where memory is wanting.
-#[tactic(auto, unfolding(crate::specs::Declarations::skeleton_of))]
 pub fn skeleton(alloc: Global, tree: &Tree, bytes: &[u8], names: &mut Names) -> Mem<Skeleton>
     requires bytes { length bytes.now ≡ end_of tree.now }
     ensures types { IfOk result (λ s. s.types ≡ skeleton_of (parts_at tree.now bytes.now tree.now.root)) }
 {
-    let root = tree.root();
-    let around = outermost(alloc, tree, bytes, root, names)?;
     let mut types = Vec::new(alloc);
-    add_types(alloc, tree, bytes, root, &around, false, names, &mut types)?;
+    add_declared(alloc, tree, bytes, names, &mut types)?;
     Ok(Skeleton {
         types: SharedList::new(alloc, types)?,
     })

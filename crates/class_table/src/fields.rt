@@ -11,7 +11,7 @@ use crate::methods::{headed, typed};
 use crate::modifiers::Mods;
 use crate::parts::{count_in, node_in};
 use crate::types::{name_in, type_of};
-use crate::written::{Base, Written, WrittenField};
+use declared_types::{Base, Written, WrittenField};
 use jtypes::Names;
 use rw_base::{Mem, NodeId, Part, Tree};
 use std::alloc::Global;

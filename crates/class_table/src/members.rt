@@ -3,13 +3,13 @@ ghost use Rattle.std.specs.Prelude.{◌≡◌, ◌<◌, ◌++◌, List, ℕ, len
 ghost use Rattle.rw_base.specs.Arena.{end_of, kind_of};
 ghost use Rattle.class_table.specs.Words.{parts_at};
 ghost use Rattle.class_table.specs.Members.{no_mods, mods_inside, holds_members, fields_in, methods_in, node_fields};
-ghost use Rattle.class_table.specs.Members.{node_methods};
+ghost use Rattle.class_table.specs.Members.{node_methods, static_in, fields_of, methods_of};
 
 use crate::fields::{add_fields, constant};
 use crate::kinds::{BODY, ENUM_CONSTANT, MEMBER, MEMBER_REST};
 use crate::methods::add_method;
 use crate::modifiers::{Mods, mods_in, static_in};
-use crate::written::{WrittenField, WrittenMethod};
+use declared_types::{WrittenField, WrittenMethod};
 use jtypes::{ClassKind, Names};
 use rw_base::{Mem, NodeId, Part, Tree};
 use std::alloc::Global;
@@ -37,6 +37,30 @@ fn mods_inside(tree: &Tree, n: NodeId, mods: Mods) -> Mods
         return mods_in(tree, n);
     }
     mods
+}
+
+// Appends the fields or the method of what stands behind the modifiers of a member.
+fn add_member(
+    alloc: Global,
+    tree: &Tree,
+    bytes: &[u8],
+    n: NodeId,
+    kind: ClassKind,
+    mods: Mods,
+    names: &mut Names,
+    out: &mut Members,
+) -> Mem<()>
+    requires node { n.0 < length tree.now.nodes }
+    requires bytes { length bytes.now ≡ end_of tree.now }
+    ensures fields { let ps = parts_at tree.now bytes.now n.0 in
+        OnOk result (out.new.fields.items ≡ out.old.fields.items ++ fields_of (static_in kind mods) ps) }
+    ensures methods { let ps = parts_at tree.now bytes.now n.0 in
+        OnOk result (out.new.methods.items ≡ out.old.methods.items ++ methods_of mods ps) }
+{
+    let for_fields = static_in(kind, mods);
+    add_fields(alloc, tree, bytes, n, for_fields, names, &mut out.fields)?;
+    add_method(alloc, tree, bytes, n, mods, names, &mut out.methods)?;
+    Ok(())
 }
 
 // Appends the members that a node's parts declare.
@@ -93,16 +117,7 @@ fn add_node(
 {
     let form = tree.kind(m);
     if form == MEMBER_REST {
-        add_fields(
-            alloc,
-            tree,
-            bytes,
-            m,
-            static_in(kind, mods),
-            names,
-            &mut out.fields,
-        )?;
-        add_method(alloc, tree, bytes, m, mods, names, &mut out.methods)?;
+        add_member(alloc, tree, bytes, m, kind, mods, names, out)?;
         return Ok(());
     }
     if form == ENUM_CONSTANT {

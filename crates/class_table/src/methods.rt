@@ -9,14 +9,14 @@ use crate::kinds::{AFTER_GENERIC, AFTER_TYPE, DIMENSIONS, GENERIC, METHOD, PARAM
 use crate::modifiers::Mods;
 use crate::parts::{count_in, has, node_in};
 use crate::types::{name_in, type_of, type_params};
-use crate::written::{Base, Written, WrittenMethod};
+use declared_types::{Base, Written, WrittenMethod};
 use java_lex::class::{ELLIPSIS, ID};
 use jtypes::{Name, Names, SharedList};
 use rw_base::{Mem, NodeId, Part, Tree};
 use std::alloc::Global;
 
-/// The name of constructors.
-pub const CONSTRUCTOR_NAME: &[u8] = b"<constructor>";
+// The name of constructors.
+const CONSTRUCTOR_NAME: &[u8] = b"<constructor>";
 
 // The first node of a kind, or the node itself where there is none.
 fn opened(tree: &Tree, n: NodeId, kind: u16) -> NodeId
@@ -118,7 +118,7 @@ fn varargs_in(tree: &Tree, n: NodeId) -> bool
 }
 
 // The name of a method, or that of constructors.
-#[tactic(auto, unfolding(crate::specs::Members::constructor_name))]
+#[tactic(auto, unfolding(j_names::specs::Calls::constructor_name))]
 fn method_name(
     alloc: Global,
     tree: &Tree,

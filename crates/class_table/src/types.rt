@@ -9,7 +9,7 @@ ghost use Rattle.class_table.specs.TypesWritten.{type_params};
 
 use crate::kinds::{DIMENSIONS, TYPE_PARAM, TYPE_PARAMS, TYPES};
 use crate::parts::{count_in, is_type, node_in, type_in, word_in};
-use crate::written::{Base, NamePart, Written, WrittenParam};
+use declared_types::{Base, NamePart, Written, WrittenParam};
 use java_lex::class::{ID, PRIM};
 use jtypes::{JPrim, Name, Names, SharedList};
 use rw_base::{Mem, NodeId, Part, Tree};

@@ -4,7 +4,8 @@ ghost use Rattle.rw_base.specs.Arena.{end_of};
 
 use crate::reads::{What, read};
 use crate::written::{put_field, put_method, put_name, put_params, put_type, put_types};
-use class_table::{DeclaredType, ScopeParams, skeleton};
+use class_table::skeleton;
+use declared_types::{DeclaredType, ScopeParams};
 use examples_base::{Answer, put_refused};
 use j_names::{EnclosingClass, ImportRow, UnitContext};
 use java_reader::JavaReader;
@@ -142,8 +143,8 @@ fn put_methods(declared: &DeclaredType, out: &mut Answer) {
     }
 }
 
-// Writes a declared type.
-fn put_one(declared: &DeclaredType, out: &mut Answer) {
+/// Writes a declared type.
+pub fn put_one(declared: &DeclaredType, out: &mut Answer) {
     put_head(declared, out);
     out.put(" {");
     put_fields(declared, out);
@@ -164,6 +165,17 @@ fn members_of(types: &[DeclaredType]) -> (usize, usize) {
     (fields, methods)
 }
 
+/// Writes how many types there are, and how many fields and methods they have together.
+pub fn put_counts(types: &[DeclaredType], out: &mut Answer) {
+    let (fields, methods) = members_of(types);
+    out.put_number(types.len());
+    out.put(" types, ");
+    out.put_number(fields);
+    out.put(" fields, ");
+    out.put_number(methods);
+    out.put(" methods");
+}
+
 // Writes the declared types of a file, behind the place that they have in common.
 fn put_all(first: &DeclaredType, types: &[DeclaredType], out: &mut Answer) {
     put_place(&first.cx, out);
@@ -174,8 +186,8 @@ fn put_all(first: &DeclaredType, types: &[DeclaredType], out: &mut Answer) {
     }
 }
 
-// Writes the declared types of a file, or where there are more than 20 or more than 20 members, how many there are.
-fn put_or_count(types: &[DeclaredType], out: &mut Answer) {
+/// Writes the declared types of a file, or where there are more than 20 or more than 20 members, how many there are.
+pub fn put_or_count(types: &[DeclaredType], out: &mut Answer) {
     let Some(first) = types.first() else {
         out.put("none");
         return;
@@ -183,14 +195,9 @@ fn put_or_count(types: &[DeclaredType], out: &mut Answer) {
     let (fields, methods) = members_of(types);
     if types.len() <= 20 && fields <= 20 && methods <= 20 {
         put_all(first, types, out);
-        return;
+    } else {
+        put_counts(types, out);
     }
-    out.put_number(types.len());
-    out.put(" types, ");
-    out.put_number(fields);
-    out.put(" fields, ");
-    out.put_number(methods);
-    out.put(" methods");
 }
 
 // Writes the declared types of a tree.

@@ -1,14 +1,15 @@
 //! Worked examples of reading Java: what files, members and expressions are read into or why they are refused, the
-//! units of files, their calls, and the types that they declare. The program reads cases and writes each with its
-//! answer, and the file `stdout` holds what it must write (see `examples_base`).
+//! units of files, their calls, the types that they declare, stubs, and the prelude. The program reads cases and writes
+//! each with its answer, and the file `stdout` holds what it must write (see `examples_base`).
 //!
 //! `reads` calls the reader, `trees` writes what it gives, `units` what is in a file, and `declared` the types that it
-//! declares, with `written` for what these consist of. What is proved of a call stands in `java_reader` and
-//! `class_table`.
+//! declares, with `written` for what these consist of; `stubs` calls what reads stubs and the prelude. What is proved
+//! of a call stands in `java_reader` and `class_table`.
 #![tactic(auto)]
 
 mod declared;
 mod reads;
+mod stubs;
 mod trees;
 mod units;
 mod written;
@@ -45,6 +46,7 @@ fn put_text_answer(
         "units" => units::put_units(alloc, reader, text, out),
         "calls" => units::put_calls(alloc, reader, text, out),
         "declared types" => declared::put_declared(alloc, reader, text, out),
+        "stubs" => stubs::put_stub(alloc, reader, text, out),
         _ => out.refuse("heading"),
     }
 }
@@ -60,6 +62,7 @@ fn put_answer<R: Files + AllocGlobal>(
     let alloc = rt.alloc();
     match heading {
         "units and calls of files" => put_file(rt, reader, case, out),
+        "prelude" => stubs::put_prelude(alloc, reader, case, out),
         _ => put_text_answer(alloc, reader, heading, &text_of(alloc, case, out), out),
     }
 }

@@ -1,5 +1,5 @@
 // What declared types consist of, as it is written: types, type parameters, fields and methods.
-use class_table::{Base, NamePart, Written, WrittenField, WrittenMethod, WrittenParam};
+use declared_types::{Base, NamePart, Written, WrittenField, WrittenMethod, WrittenParam};
 use examples_base::Answer;
 use jtypes::{JPrim, Name};
 

@@ -1,7 +1,7 @@
 use Rattle.std.proofs.Common.{◌≡◌, ◌∙◌, sym, ap, length, subst, arith}
 use Rattle.std.specs.Prelude.{IfOk}
 use Rattle.rw_base.specs.declared.tree.Leaf.{Leaf}
-use Rattle.class_table.specs.declared.written.Base.TheVariants as base
+use Rattle.declared_types.specs.declared.written.Base.TheVariants as base
 use Rattle.class_table.specs.TypesWritten.{named, base_of, prim_named}
 use Rattle.class_table.proofs.Steps.{when, unless}
 use Rattle.class_table.proofs.FirstParts.{first_leaf, first_node, no_first, is_none, is_there}

@@ -4,7 +4,7 @@ use Rattle.std.specs.Prelude.{IfOk}
 use Rattle.rw_base.specs.declared.tree.Leaf.{Leaf}
 use Rattle.rw_base.specs.PartLaws.{below_next}
 use Rattle.java_lex.specs.declared.class.TheConstants.{ID}
-use Rattle.class_table.specs.declared.written.NamePart.{NamePart}
+use Rattle.declared_types.specs.declared.written.NamePart.{NamePart}
 use Rattle.class_table.specs.Words.{Word, Parts, trees_of}
 use Rattle.class_table.specs.TypesWritten.{names_in, part_of_name}
 use Rattle.class_table.proofs.Steps.{when, unless}

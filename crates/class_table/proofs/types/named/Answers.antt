@@ -1,7 +1,7 @@
 use Rattle.std.proofs.Common.{◌≡◌, ◌∙◌, ◌+◌, sym, ap, length, drop, arith}
 use Rattle.rw_base.specs.Arena.{leaf_at, text_of}
-use Rattle.class_table.specs.declared.written.Base.TheVariants as base
-use Rattle.class_table.specs.declared.written.NamePart.{NamePart}
+use Rattle.declared_types.specs.declared.written.Base.TheVariants as base
+use Rattle.declared_types.specs.declared.written.NamePart.{NamePart}
 use Rattle.class_table.specs.TypesWritten.{named, part_of_name, names_in}
 use Rattle.class_table.specs.Words.{trees_of}
 use Rattle.class_table.proofs.FirstParts.{first_leaf, first_node, no_first, is_none, is_there}

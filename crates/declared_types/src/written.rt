@@ -1,8 +1,10 @@
 // Declared types as they are written: names aren't resolved.
-ghost use Rattle.std.specs.Prelude.{◌≡◌, []};
+ghost use Rattle.std.specs.Prelude.{◌≡◌, ◌↔◌, [], IsTrue, IfOk};
 
+use crate::same::Same;
 use j_names::UnitContext;
 use jtypes::{ClassKind, JPrim, Name, SharedList};
+use rw_base::Mem;
 
 /// A part of a name, between dots, without its type arguments.
 #[derive(Debug, Drop)]
@@ -104,5 +106,22 @@ impl Skeleton {
         Skeleton {
             types: SharedList::empty(),
         }
+    }
+
+    /// The same skeleton once more. Takes no memory: copies share the declared types.
+    pub fn copy(&self) -> Mem<Skeleton>
+        ensures same { IfOk result (λ copy. copy ≡ self.now) }
+    {
+        Ok(Skeleton {
+            types: self.types.copy()?,
+        })
+    }
+
+    /// Whether both are the same: the same types in the same order, equal in all that is written of them. Takes time in
+    /// proportion to what both have in common.
+    pub fn is(&self, other: &Skeleton) -> bool
+        ensures same { IsTrue result ↔ (self.now ≡ other.now) }
+    {
+        self.types.is_same(&other.types)
     }
 }

@@ -1,0 +1,6 @@
+pub mod Names
+pub mod FirstNamed
+pub mod OneMore
+pub mod Worlds
+pub mod Owned
+pub mod MoreRows

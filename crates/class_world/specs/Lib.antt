@@ -1,0 +1,3 @@
+pub mod Worlds
+pub mod Rows
+pub mod Once

@@ -1,0 +1,5 @@
+pub mod ImplicitNames
+pub mod Resolving
+pub mod Supertypes
+pub mod Erasure
+pub mod Signatures

@@ -1,0 +1,66 @@
+// What a written type names.
+ghost use Rattle.std.specs.Prelude.{◌≡◌, IfOk};
+ghost use Rattle.dialogue.specs.Dialogue.{in_turn};
+ghost use Rattle.dialogue.specs.Told.{Told};
+ghost use Rattle.declared_types.specs.Resolving.{as_frames, part_behind, name_meant};
+
+use crate::written::{NamePart, WrittenParam};
+use j_names::{
+    Frame, Frames, UnitContext, type_behind_asking, type_named_asking, type_or_package_asking,
+};
+use jtypes::{Asks, Classes, Symbol};
+use rw_base::Mem;
+use std::alloc::Global;
+
+/// Type parameters as scopes.
+pub(crate) fn as_frames(alloc: Global, params: &[WrittenParam]) -> Mem<Frames>
+    ensures { IfOk result (λ frames. frames ≡ as_frames params.now) }
+{
+    let mut frames = Frames::new(alloc);
+    for param in params {
+        let name = param.name.copy()?;
+        frames.push(Frame::TypeParam { name })?;
+    }
+    Ok(frames)
+}
+
+/// What the last part of a name means, behind what stands in front of its first.
+fn parts_behind<C: Classes>(
+    alloc: Global,
+    cx: &UnitContext,
+    scope: Symbol,
+    parts: &[NamePart],
+    c: &C,
+    asks: &mut Asks,
+) -> Mem<Symbol>
+    ensures { IfOk result (λ s.
+        Told (in_turn (part_behind cx.now) scope parts.now) (C.world c.now) asks.old asks.new s) }
+{
+    let mut meaning = scope;
+    for part in parts {
+        meaning = type_behind_asking(alloc, cx, &meaning, &part.name, c, asks)?;
+    }
+    Ok(meaning)
+}
+
+/// What a name means in a type position, by its first part and those behind it.
+pub(crate) fn name_meant<C: Classes>(
+    alloc: Global,
+    cx: &UnitContext,
+    frames: &Frames,
+    part: &NamePart,
+    parts: &[NamePart],
+    c: &C,
+    asks: &mut Asks,
+) -> Mem<Symbol>
+    ensures { IfOk result (λ s.
+        Told (name_meant cx.now frames.now part.now parts.now) (C.world c.now) asks.old asks.new s) }
+{
+    if parts.is_empty() {
+        let meaning = type_named_asking(alloc, cx, frames, &part.name, c, asks)?;
+        return Ok(meaning);
+    }
+    let scope = type_or_package_asking(alloc, cx, frames, &part.name, c, asks)?;
+    let meaning = parts_behind(alloc, cx, scope, parts, c, asks)?;
+    Ok(meaning)
+}
