@@ -1,16 +1,21 @@
 //! Worked examples of files: properties files and what a recipe does to them, paths, stores and sinks. The program
 //! reads cases and writes each with its answer, and the file `stdout` holds what it must write (see `examples_base`).
 //!
-//! `properties` and `recipes` read and rename keys, `stores` makes calls on a store of any kind, `makes` makes one, and
-//! the modules that begin with `large` make calls with large inputs. What is proved of a call stands in its crate.
+//! `properties` and `recipes` read and rename keys, `stores` makes calls on a store of any kind, `makes` makes one,
+//! `commits` and `recoveries` commit and recover batches over stores of `journals`, and the modules that begin with
+//! `large` make calls with large inputs. What is proved of a call stands in its crate.
 #![tactic(auto)]
 
+mod commits;
+mod journals;
+mod large_commits;
 mod large_properties;
 mod large_stores;
 mod makes;
 mod outside;
 mod properties;
 mod recipes;
+mod recoveries;
 mod sinks;
 mod stores;
 
@@ -32,6 +37,7 @@ fn put_large_answer(alloc: Global, case: &str, out: &mut Answer) {
         "memory_store" => large_stores::put_memory(alloc, count, out),
         "sink" => large_stores::put_sink(alloc, count, out),
         "path" => large_stores::put_path(alloc, count, out),
+        "commit" => large_commits::put_commit(alloc, count, out),
         _ => large_properties::put_answer(alloc, call, count, out),
     }
 }
@@ -49,14 +55,20 @@ fn put_text_answer(alloc: Global, heading: &str, text: &[u8], out: &mut Answer) 
 }
 
 // Writes the answer of a case in memory.
-fn put_memory_answer(alloc: Global, heading: &str, case: &str, out: &mut Answer) {
-    match heading {
+fn put_memory_answer(alloc: Global, lines: &Lines, case: &str, out: &mut Answer) {
+    match lines.heading() {
         "large" => put_large_answer(alloc, case, out),
         "properties with a key" => properties::put_keys(alloc, &words_of(alloc, case, out), out),
         "renamed keys" => recipes::put_renamed(alloc, &words_of(alloc, case, out), out),
         "paths" => sinks::put_path(alloc, &words_of(alloc, case, out), out),
         "sinks" => sinks::put_pieces(alloc, &words_of(alloc, case, out), out),
-        _ => put_text_answer(alloc, heading, &text_of(alloc, case, out), out),
+        "commits" => {
+            commits::put_commit(alloc, lines.givens(), &text_of(alloc, case, out), out);
+        }
+        "recoveries" => {
+            recoveries::put_answer(alloc, lines.givens(), &words_of(alloc, case, out), out);
+        }
+        heading => put_text_answer(alloc, heading, &text_of(alloc, case, out), out),
     }
 }
 
@@ -65,14 +77,14 @@ fn put_answer<R: Files + Print + AllocGlobal + Clone + Drop>(
     rt: &R,
     alloc: Global,
     store: &mut Option<AnyStore<R>>,
-    heading: &str,
+    lines: &Lines,
     case: &str,
     out: &mut Answer,
 ) {
-    match heading {
+    match lines.heading() {
         "stores" => makes::put_answer(rt, alloc, store, &words_of(alloc, case, out), out),
         "standard output" => sinks::put_piece(rt, &text_of(alloc, case, out), out),
-        _ => put_memory_answer(alloc, heading, case, out),
+        _ => put_memory_answer(alloc, lines, case, out),
     }
 }
 
@@ -84,14 +96,7 @@ fn main(rt: HostRuntime) -> Result<(), Stop> {
         let line = line?;
         let mut out = Answer::new(alloc);
         if lines.read(alloc, line.as_str(), &mut out) {
-            put_answer(
-                &rt,
-                alloc,
-                &mut store,
-                lines.heading(),
-                line.as_str(),
-                &mut out,
-            );
+            put_answer(&rt, alloc, &mut store, &lines, line.as_str(), &mut out);
         }
         out.print(&rt)?;
     }
