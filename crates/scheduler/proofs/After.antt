@@ -1,5 +1,5 @@
 -- What is kept stays kept.
-use Rattle.std.proofs.Common.{◌≡◌, ℕ, Bool, true, false, List, [], ◌∷◌, ◌++◌, refl, sym, ap, ◌∙◌, subst, length, arith}
+use Rattle.std.proofs.Common.{◌≡◌, ℕ, true, false, List, [], ◌∷◌, ◌++◌, refl, sym, ap, ◌∙◌, subst, length, arith}
 use Rattle.std.specs.Prelude.{if◌then◌else◌, ◌||◌}
 use Rattle.std.specs.Str.{bytes_eq}
 use Rattle.std.specs.Ordering.{nat_cmp}
@@ -30,7 +30,7 @@ moved_kept (f ∷ fs) (d ∷ ds) r = moved_at_kept f d (moved fs ds) r.0 (moved_
 
 -- ---- what is left at its path
 
-left_at_below : (p : List ℕ) (f : KeptFile) (d : Fate) (rest : State) → slice_cmp nat_cmp p f.path ≡ Less → IsBelow p rest → IsBelow p (left_at f d ++ rest)
+pub left_at_below : (p : List ℕ) (f : KeptFile) (d : Fate) (rest : State) → slice_cmp nat_cmp p f.path ≡ Less → IsBelow p rest → IsBelow p (left_at f d ++ rest)
 left_at_below p f Stays rest e b = (e, b)
 left_at_below p f Goes rest e b = b
 left_at_below p f (Lost x) rest e b = (e, b)
@@ -40,7 +40,7 @@ left_at_below p f (Becomes g) rest e b = elim (bytes_eq g.path f.path) as (λ t.
   | false ↦ λ other. b
 ] refl
 
-left_below : (p : List ℕ) (fs : State) (ds : List Fate) → IsBelow p fs → IsBelow p (left fs ds)
+pub left_below : (p : List ℕ) (fs : State) (ds : List Fate) → IsBelow p fs → IsBelow p (left fs ds)
 unfolding beside
 left_below p [] ds b = tt
 left_below p (f ∷ fs) [] b = tt

@@ -1,6 +1,5 @@
 -- The files that a leaf generates, one after another.
-use Rattle.std.proofs.Common.{◌≡◌, ℕ, ◌+◌, ◌<◌, ◌≤◌, Bool, true, false, List, [], ◌∷◌, ◌++◌, length, drop, get_or, Option, refl, sym, ap, subst, ◌∙◌}
-use Rattle.std.proofs.lemmas.List.{drop_all}
+use Rattle.std.proofs.Common.{◌≡◌, ℕ, true, false, List, [], ◌∷◌, ◌++◌, refl, sym, ap, ◌∙◌}
 use Rattle.rw_host.specs.declared.file.SourceFile.{SourceFile}
 use Rattle.kept_files.specs.Readings.{Reads}
 use Rattle.kept_files.specs.States.{State, has_path, put_file}

@@ -10,3 +10,7 @@ pub mod Scans
 pub mod Generated
 pub mod Onward
 pub mod RunsOn
+pub mod Standing
+pub mod Spared
+pub mod Untouched
+pub mod Altered

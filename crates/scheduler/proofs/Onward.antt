@@ -1,8 +1,8 @@
 -- Through stages one after another.
-use Rattle.std.proofs.Common.{◌≡◌, ℕ, zero, suc, ◌+◌, ◌-◌, ◌^◌, min, ◌<◌, ◌≤◌, Bool, true, false, List, [], ◌∷◌, ◌++◌, length, drop, get_or, map, refl, sym, ap, subst, ◌∙◌, inl, inr, arith}
+use Rattle.std.proofs.Common.{◌≡◌, ℕ, zero, suc, ◌+◌, ◌-◌, ◌^◌, min, ◌<◌, ◌≤◌, Bool, true, false, List, [], ◌∷◌, ◌++◌, length, drop, get_or, refl, sym, ap, subst, ◌∙◌, inl, inr, arith}
 use Rattle.std.specs.Prelude.{Result, Ok, Err, nat_lt, if◌then◌else◌}
 use Rattle.std.proofs.lemmas.Bool.Decides.{nat_tests}
-use Rattle.std.proofs.lemmas.List.{drop_all, get_or_default}
+use Rattle.std.proofs.lemmas.List.{drop_all}
 use Rattle.kept_files.specs.Readings.{Reads}
 use Rattle.kept_files.specs.States.{State, held_bytes}
 use Rattle.scheduler.specs.declared.event.Event.{Event}
@@ -12,7 +12,7 @@ use Rattle.kept_files.specs.declared.scan_value.ScanValue.{ScanValue}
 use Rattle.scheduler.specs.declared.fault.RunFault.{RunFault}
 use Rattle.scheduler.specs.declared.fault.RunFault.TheVariants.{TooMuch, NoMemory}
 use Rattle.scheduler.specs.declared.fault.TheConstants.{MOST_HELD}
-use Rattle.scheduler.specs.Runs.{Stage, Phase, Reached, reached, end, too_much, each_leaf, last_of, cycle, generation, edit_step, scanned, value_for, values_for}
+use Rattle.scheduler.specs.Runs.{Stage, Phase, Reached, reached, end, too_much, each_leaf, last_of, cycle, generation, edit_step, value_for, values_for}
 use Rattle.scheduler.specs.Came.{Stands, Came, phase_of}
 use Rattle.scheduler.specs.declared.cycling.PhaseKind.TheVariants.{Generate, Edit}
 use Rattle.scheduler.proofs.Decided.{cut}

@@ -1,13 +1,13 @@
 -- Cycle by cycle.
-use Rattle.std.proofs.Common.{◌≡◌, ℕ, zero, suc, ◌+◌, ◌-◌, ◌<◌, ◌≤◌, Bool, true, false, List, [], ◌∷◌, ◌++◌, refl, sym, ap, subst, ◌∙◌, arith}
-use Rattle.std.specs.Prelude.{Result, Ok, Err, not, ◌&&◌, if◌then◌else◌}
+use Rattle.std.proofs.Common.{◌≡◌, ℕ, zero, suc, ◌+◌, ◌-◌, ◌<◌, Bool, true, false, List, refl, sym, ap, subst, ◌∙◌, arith}
+use Rattle.std.specs.Prelude.{Ok, Err, not, ◌&&◌, if◌then◌else◌}
 use Rattle.kept_files.specs.Readings.{Reads}
 use Rattle.kept_files.specs.States.{State}
 use Rattle.scheduler.specs.declared.event.Event.{Event}
 use Rattle.recipe_yaml.specs.declared.plans.Plan.{Plan}
 use Rattle.scheduler.specs.declared.fault.RunFault.{RunFault}
 use Rattle.scheduler.specs.declared.fault.RunFault.TheVariants.{TooMuch, NoMemory}
-use Rattle.scheduler.specs.Runs.{Stage, Run, reached, end, too_much, last_of, cycle, run, ends_with, same_files}
+use Rattle.scheduler.specs.Runs.{Run, reached, end, too_much, last_of, cycle, run, ends_with, same_files}
 use Rattle.scheduler.specs.Came.{Stands, Came, CameRun}
 use Rattle.scheduler.specs.declared.running.Ended.{Ended}
 use Rattle.scheduler.proofs.Onward.{Onward, onward, lasts, fault_in_front, came_nowhere, no_memory_here}

@@ -1,6 +1,6 @@
 -- What scanners have, file by file and leaf by leaf.
-use Rattle.std.proofs.Common.{◌≡◌, ℕ, ◌+◌, ◌<◌, ◌≤◌, List, [], ◌∷◌, ◌++◌, length, take, drop, get_or, map, refl, sym, ap, ◌∙◌, add-one, drop-cons, append_assoc, arith}
-use Rattle.std.proofs.lemmas.List.{drop_all, append-nil, take_all}
+use Rattle.std.proofs.Common.{◌≡◌, ℕ, ◌+◌, ◌<◌, ◌≤◌, List, [], ◌∷◌, ◌++◌, length, drop, get_or, refl, sym, ap, ◌∙◌, append_assoc}
+use Rattle.std.proofs.lemmas.List.{drop_all, append-nil}
 use Rattle.kept_files.specs.States.{State, no_file}
 use Rattle.recipe_yaml.specs.declared.plans.PlannedLeaf.{PlannedLeaf}
 use Rattle.recipe_yaml.specs.declared.plans.LeafRecipe.{LeafRecipe}

@@ -1,10 +1,10 @@
 -- A whole step.
-use Rattle.std.proofs.Common.{◌≡◌, ℕ, ◌<◌, ◌≤◌, ◌-◌, ◌^◌, min, length, List, [], refl, sym, ap, subst, ◌∙◌, arith}
+use Rattle.std.proofs.Common.{◌≡◌, ℕ, ◌<◌, ◌≤◌, ◌-◌, ◌^◌, min, length, List, [], sym, ap, subst, ◌∙◌, arith}
 use Rattle.std.specs.Prelude.{slice_index_or}
 use Rattle.std.proofs.lemmas.List.{get_or_default}
 use Rattle.scheduler.specs.declared.fault.TheConstants.{MOST_HELD}
 use Rattle.kept_files.specs.Readings.{Reads}
-use Rattle.kept_files.specs.States.{State, AreKept, held_bytes}
+use Rattle.kept_files.specs.States.{State, held_bytes}
 use Rattle.scheduler.specs.declared.fate.Fate.{Fate}
 use Rattle.scheduler.specs.declared.event.Event.{Event}
 use Rattle.recipe_yaml.specs.declared.plans.Plan.{Plan}

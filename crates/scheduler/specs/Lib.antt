@@ -4,3 +4,4 @@ pub mod Fates
 pub mod Steps
 pub mod Runs
 pub mod Came
+pub mod Untouched

@@ -10,8 +10,13 @@
 //! and the maximum allows it. `run_plan` ensures that it comes to the last state and the events of that run (`done`,
 //! `cycles`, `still`), or stands at the state before the first that holds too much (`too_much`).
 //!
+//! The laws: a file that no step alters stays the same, with its bytes (`an_untouched_file_stays`); each file behind a
+//! step is one before it, or what the leaf's edits make of one before it (`an_altered_file_is_edited`); and outside the
+//! edited ranges its bytes stay (`an_edited_file_keeps_its_gaps`).
+//!
 //! The definitions in specs/: `Edits` (what each leaf recipe does), `Holds` (preconditions), `Fates` and `Steps` (an
-//! edit step), `Runs` (cycles, runs, and what is reached). `Came` says what a part of a run came to.
+//! edit step), `Runs` (cycles, runs, and what is reached). `Came` says what a part of a run came to, and
+//! `Untouched` when a run leaves a path alone.
 #![tactic(auto)]
 
 mod cycling;
@@ -21,6 +26,7 @@ mod event;
 mod fate;
 mod fault;
 mod generating;
+mod laws;
 mod next;
 mod running;
 mod same;
@@ -30,5 +36,6 @@ mod stepping;
 
 pub use event::{DropCause, Event};
 pub use fault::{MOST_HELD, RunFault};
+pub use laws::{an_altered_file_is_edited, an_edited_file_keeps_its_gaps, an_untouched_file_stays};
 pub use running::{Outcome, run_plan};
 pub use stepping::{StepReport, step};

@@ -1,5 +1,4 @@
-use Rattle.std.proofs.Common.{◌≡◌, Ok}
-use Rattle.scheduler.specs.Runs.{values_for}
+use Rattle.std.proofs.Common.{Ok}
 use Rattle.scheduler.proofs.Onward.{values_are, cycle_goes}
 use Rattle.scheduler.proofs.cycling.cycle.Goals as goal
 

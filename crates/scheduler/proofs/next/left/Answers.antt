@@ -1,4 +1,4 @@
-use Rattle.std.proofs.Common.{◌≡◌, arith}
+use Rattle.std.proofs.Common.{arith}
 use Rattle.scheduler.specs.Steps.{left_at, left}
 use Rattle.scheduler.proofs.Beside.{beside_end}
 use Rattle.scheduler.proofs.After.{left_is_kept}

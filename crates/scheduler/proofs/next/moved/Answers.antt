@@ -1,4 +1,4 @@
-use Rattle.std.proofs.Common.{◌≡◌, arith}
+use Rattle.std.proofs.Common.{arith}
 use Rattle.scheduler.specs.Steps.{moved_from, moved}
 use Rattle.scheduler.proofs.Beside.{beside_end}
 use Rattle.scheduler.proofs.After.{moved_is_kept}
