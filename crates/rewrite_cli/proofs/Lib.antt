@@ -1,5 +1,6 @@
 pub mod FoundInFile
 pub mod Walked
+pub mod StubPaths
 pub mod SourceSteps
 pub mod PlanSteps
 pub mod Merging
@@ -10,5 +11,6 @@ pub mod JournalSteps
 pub mod Idling
 pub mod Moments
 pub mod ReportSteps
+pub mod Weaving
 pub mod Answering
 pub mod Performing

@@ -25,7 +25,7 @@ use Rattle.rewrite_cli.specs.Statuses.{IsAnswered, IsAsBefore}
 use Rattle.rewrite_cli.specs.Meanings.{Meanings}
 use Rattle.rewrite_cli.specs.Opening.{opening, plan_in}
 use Rattle.rewrite_cli.specs.Sources.{sources_of}
-use Rattle.rewrite_cli.specs.Running.{ran, fault, past, ran_by, run_by, ended_by, ended, refusals}
+use Rattle.rewrite_cli.specs.Running.{Ends, ran, fault, past, ran_by, run_by, ended_by, ended, refusals}
 use Rattle.rewrite_cli.specs.Ends.{IsEnd, IsJournalStop, IsRecoveryEnd, IsRunStop, IsRunStopOf, IsReadStop, IsPlanStop, IsStandingEnd, IsToldBy, TellsFault}
 
 -- ---- how a run ends early
@@ -43,7 +43,7 @@ pub ruleset stops = (too_much_stop, memory_stop)
 -- ---- a recipe over a repository
 
 module _ (meanings : Meanings) (files : Files) (asked : Asked) where
-  by_plan : (plan : Result Plan RecipeFault) → plan_in meanings files asked.recipe ≡ plan → ended meanings files asked ≡ ended_by meanings.read asked.cycles (opening meanings.read files) plan
+  by_plan : (plan : Result Plan RecipeFault) → plan_in meanings files asked.recipe ≡ plan → ended meanings files asked ≡ ended_by meanings.read asked.cycles (refusals meanings.read files) (opening meanings.read files) plan
   unfolding ended
   by_plan plan e = rw e refl
 
@@ -53,23 +53,26 @@ module _ (meanings : Meanings) (files : Files) (asked : Asked) where
   fault_end f e = by_plan (Err f) e
 
   by_run : (plan : Plan) (first : State) → plan_in meanings files asked.recipe ≡ Ok plan → first ≡ opening meanings.read files
-      → ended meanings files asked ≡ run_by first (run meanings.read plan asked.cycles first)
+      → ended meanings files asked ≡ run_by (refusals meanings.read files) first (run meanings.read plan asked.cycles first)
   unfolding ended_by
-  by_run plan first e o = by_plan (Ok plan) e ∙ ap (λ s. run_by s (run meanings.read plan asked.cycles s)) (sym o)
+  by_run plan first e o = by_plan (Ok plan) e ∙ ap (λ s. run_by (refusals meanings.read files) s (run meanings.read plan asked.cycles s)) (sym o)
 
   module _ (plan : Plan) (first : State) (e : plan_in meanings files asked.recipe ≡ Ok plan) (o : first ≡ opening meanings.read files) where
     pub run_end : (r : ToldRan) → reached first [] (run meanings.read plan asked.cycles first).stages ≡ end r.kept r.events → (run meanings.read plan asked.cycles first).cycles ≡ r.cycles
-        → (run meanings.read plan asked.cycles first).still_changing ≡ r.still_changing → r.first.items ≡ first → IsEnd (ended meanings files asked) (Ok r)
+        → (run meanings.read plan asked.cycles first).still_changing ≡ r.still_changing → r.first.items ≡ first → r.refused.items ≡ refusals meanings.read files → IsEnd (ended meanings files asked) (Ok r)
     unfolding IsEnd
-    run_end r c y s f =
+    run_end r c y s f t =
+        let told = refusals meanings.read files in
+        let made = run meanings.read plan asked.cycles first in
         by_run plan first e o
-        ∙ (ap (ran_by first (run meanings.read plan asked.cycles first)) c
-        ∙ (ap (λ k. ran (record { first = first; last = r.kept; events = refusals first ++ r.events; cycles = k; still_changing = (run meanings.read plan asked.cycles first).still_changing })) y
-        ∙ (ap (λ b. ran (record { first = first; last = r.kept; events = refusals first ++ r.events; cycles = r.cycles; still_changing = b })) s
-        ∙ ap (λ fs. ran (record { first = fs; last = r.kept; events = refusals fs ++ r.events; cycles = r.cycles; still_changing = r.still_changing })) (sym f))))
+        ∙ (ap (ran_by told first made) c
+        ∙ (ap (λ k. ran (record { first = first; last = r.kept; events = told ++ r.events; cycles = k; still_changing = made.still_changing })) y
+        ∙ (ap (λ b. ran (record { first = first; last = r.kept; events = told ++ r.events; cycles = r.cycles; still_changing = b })) s
+        ∙ (ap (λ fs. ran (record { first = fs; last = r.kept; events = told ++ r.events; cycles = r.cycles; still_changing = r.still_changing })) (sym f)
+        ∙ ap (λ es. ran (record { first = r.first.items; last = r.kept; events = es ++ r.events; cycles = r.cycles; still_changing = r.still_changing })) (sym t)))))
 
     pub step_end : (kept : State) (bytes : ℕ) → reached first [] (run meanings.read plan asked.cycles first).stages ≡ too_much kept bytes → ended meanings files asked ≡ past limit.StepBytes
-    step_end kept bytes c = by_run plan first e o ∙ ap (ran_by first (run meanings.read plan asked.cycles first)) c
+    step_end kept bytes c = by_run plan first e o ∙ ap (ran_by (refusals meanings.read files) first (run meanings.read plan asked.cycles first)) c
 
     pub fault_of_run : (f : RunFault) (s : Stop) → ((bytes : ℕ) → f ≡ run_fault.TooMuch bytes → (kept : State) × (reached first [] (run meanings.read plan asked.cycles first).stages ≡ too_much kept bytes))
         → IsRunStopOf f s → IsEnd (ended meanings files asked) (Err s)
@@ -95,6 +98,10 @@ module _ (meanings : Meanings) (files : Files) (asked : Asked) where
   pub memory_end : IsEnd (ended meanings files asked) (Err stop.NoMemory)
   unfolding IsEnd
   memory_end = tt
+
+pub stopped_end : (ends : Ends) (r : Result ToldRan Stop) (s : Stop) → r ≡ Err s → s ≡ stop.NoMemory → IsEnd ends r
+unfolding IsEnd
+stopped_end ends r s is e = rw (is, e) tt
 
 pub opening_is : (meanings : Meanings) (files : Files) (sources : List SourceFile) → sources ≡ sources_of files → map_list (file_of meanings.read) sources ≡ opening meanings.read files
 unfolding opening

@@ -3,29 +3,23 @@ use Rattle.std.proofs.Common.{◌≡◌, ℕ, ◌<◌, ◌≤◌, ◌+◌, ◌++
 use Rattle.std.specs.Prelude.{codes, decimal, is_some}
 use Rattle.std.proofs.lemmas.List.{drop_all}
 use Rattle.rw_base.specs.declared.place.Place.{Place}
-use Rattle.rw_base.specs.declared.place.Refused.{Refused}
-use Rattle.kept_files.specs.declared.reading.Reading.{Reading}
-use Rattle.kept_files.specs.declared.reading.Reading.TheVariants as reading
 use Rattle.kept_files.specs.States.{State}
 use Rattle.kept_files.specs.declared.file.KeptFile.{KeptFile}
 use Rattle.scheduler.specs.declared.event.DropCause.{DropCause}
 use Rattle.scheduler.specs.declared.event.Event.{Event}
-use Rattle.scheduler.specs.declared.event.Event.TheVariants as event
-use Rattle.scheduler.specs.Runs.{refusal_of}
 use Rattle.rewrite_cli.specs.declared.changes.Change.{Change}
 use Rattle.rewrite_cli.specs.declared.report.ChangeKind.{ChangeKind}
 use Rattle.rewrite_cli.specs.declared.report.ChangeKind.TheVariants as kind
 use Rattle.rewrite_cli.specs.Answers.{tells}
 use Rattle.rewrite_cli.specs.Changes.{changes}
 use Rattle.command_words.specs.Words.{Asked}
-use Rattle.rewrite_cli.specs.Checking.{refused_line}
 use Rattle.rewrite_cli.specs.Report.{has_kind, count_of, count_read_in, number_line, text_line, change_line, change_lines, drop_name, dropped_line, event_line, event_lines, still_line, head_lines, count_lines, report}
-use Rattle.rewrite_cli.specs.Running.{Ran, refusals}
+use Rattle.rewrite_cli.specs.Running.{Ran}
 
 cut : {A : Type 0} (xs : List A) (i : ℕ) (d : A) → i < length xs → drop i xs ≡ get_or xs i d ∷ drop (i + 1) xs
 cut xs i d lt = drop-cons xs i d lt ∙ rw add-one refl
 
-cut_to : {A : Type 0} (xs : List A) (i : ℕ) (x : A) → i < length xs → x ≡ get_or xs i x → drop i xs ≡ x ∷ drop (i + 1) xs
+pub cut_to : {A : Type 0} (xs : List A) (i : ℕ) (x : A) → i < length xs → x ≡ get_or xs i x → drop i xs ≡ x ∷ drop (i + 1) xs
 cut_to xs i x lt is = cut xs i x lt ∙ ap (λ y. y ∷ drop (i + 1) xs) (sym is)
 
 -- ---- one text behind another
@@ -91,74 +85,6 @@ tells_join : (xs ys : List Event) → tells (xs ++ ys) ≡ (tells xs || tells ys
 tells_join [] ys = refl
 tells_join (x ∷ xs) ys = refl
 
--- ---- files that are refused
-
-pub refused_text : (f : KeptFile) (r : Refused) (old : List ℕ) → f.reading ≡ reading.Refused r → old ++ refused_line f.path (record { place = r.place; cause = r.cause }) ≡ old ++ event_lines (refusal_of f)
-unfolding event_lines event_line
-refused_text f r old e = rw e (ap (λ t. old ++ t) (sym (append-nil (event_line (event.Refused f.path r.place r.cause)))))
-
-pub refused_tells : (f : KeptFile) (r : Refused) → f.reading ≡ reading.Refused r → true ≡ tells (refusal_of f)
-refused_tells f r e = rw e refl
-
-quiet : (f : KeptFile) (r : Reading) → f.reading ≡ r → ((w : Refused) → r ≡ reading.Refused w → ⊥) → refusal_of f ≡ []
-quiet f (reading.Refused w) e n = absurd (n w refl)
-quiet f (reading.Java t) e n = rw e refl
-quiet f (reading.Yaml t) e n = rw e refl
-quiet f (reading.Properties t) e n = rw e refl
-quiet f reading.Unread e n = rw e refl
-
-pub quiet_text : (f : KeptFile) (old : List ℕ) → ((w : Refused) → f.reading ≡ reading.Refused w → ⊥) → old ≡ old ++ event_lines (refusal_of f)
-unfolding event_lines
-quiet_text f old n = sym (ap (λ es. old ++ event_lines es) (quiet f f.reading refl n) ∙ append-nil old)
-
-pub quiet_tells : (f : KeptFile) → ((w : Refused) → f.reading ≡ reading.Refused w → ⊥) → false ≡ tells (refusal_of f)
-quiet_tells f n = sym (ap tells (quiet f f.reading refl n))
-
-pub ruleset refused = (refused_text, refused_tells, quiet_text, quiet_tells)
-
-refusals_cons : (f : KeptFile) (fs : State) → refusals (f ∷ fs) ≡ refusal_of f ++ refusals fs
-unfolding refusals
-refusals_cons f fs = refl
-
-refusals_nil : refusals [] ≡ []
-unfolding refusals
-refusals_nil = refl
-
-pub files_more : (fs : State) (i : ℕ) (f : KeptFile) (out new all : List ℕ) → i < length fs → f ≡ get_or fs i f → new ≡ out ++ event_lines (refusal_of f) → out ++ event_lines (refusals (drop i fs)) ≡ all
-    → new ++ event_lines (refusals (drop (i + 1) fs)) ≡ all
-files_more fs i f out new all lt is e h =
-    ap (λ t. t ++ event_lines (refusals (drop (i + 1) fs))) e
-    ∙ (append_assoc out (event_lines (refusal_of f)) (event_lines (refusals (drop (i + 1) fs)))
-    ∙ (ap (λ t. out ++ t) (sym (lines_join (refusal_of f) (refusals (drop (i + 1) fs))))
-    ∙ (sym (ap (λ es. out ++ event_lines es) (ap refusals (cut_to fs i f lt is) ∙ refusals_cons f (drop (i + 1) fs))) ∙ h)))
-
-pub files_end : (fs : State) (i : ℕ) (out all : List ℕ) → length fs ≤ i → out ++ event_lines (refusals (drop i fs)) ≡ all → out ≡ all
-unfolding event_lines
-files_end fs i out all le h = sym (ap (λ es. out ++ event_lines es) (ap refusals (drop_all i fs le) ∙ refusals_nil) ∙ append-nil out) ∙ h
-
-or_assoc : (a b c : Bool) → ((a || b) || c) ≡ (a || (b || c))
-or_assoc true b c = refl
-or_assoc false b c = refl
-
-or_false : (a : Bool) → (a || false) ≡ a
-or_false true = refl
-or_false false = refl
-
-any_step : (fs : State) (i : ℕ) (f : KeptFile) → i < length fs → f ≡ get_or fs i f → tells (refusals (drop i fs)) ≡ (tells (refusal_of f) || tells (refusals (drop (i + 1) fs)))
-any_step fs i f lt is = ap (λ es. tells es) (ap refusals (cut_to fs i f lt is) ∙ refusals_cons f (drop (i + 1) fs)) ∙ tells_join (refusal_of f) (refusals (drop (i + 1) fs))
-
-pub any_more : (fs : State) (i : ℕ) (f : KeptFile) (any all said new : Bool) → i < length fs → f ≡ get_or fs i f → said ≡ tells (refusal_of f) → new ≡ (any || said) → (any || tells (refusals (drop i fs))) ≡ all
-    → (new || tells (refusals (drop (i + 1) fs))) ≡ all
-any_more fs i f any all said new lt is e n h =
-    ap (λ b. b || tells (refusals (drop (i + 1) fs))) (n ∙ ap (λ b. any || b) e)
-    ∙ (or_assoc any (tells (refusal_of f)) (tells (refusals (drop (i + 1) fs)))
-    ∙ (sym (ap (λ b. any || b) (any_step fs i f lt is)) ∙ h))
-
-pub any_end : (fs : State) (i : ℕ) (any all : Bool) → length fs ≤ i → (any || tells (refusals (drop i fs))) ≡ all → any ≡ all
-any_end fs i any all le h = sym (ap (λ es. any || tells es) (ap refusals (drop_all i fs le) ∙ refusals_nil) ∙ or_false any) ∙ h
-
-pub ruleset all_refused = (files_more, files_end, any_more, any_end)
-
 -- ---- counting
 
 abbrev pub one_if : Bool → ℕ
@@ -219,26 +145,26 @@ pub counts_are : (old : List ℕ) (cs : List Change)
 unfolding count_lines
 counts_are old cs = more old _ _ (number_line (codes "removed") (count_of kind.Removed cs)) (append_assoc old (number_line (codes "changed") (count_of kind.Changed cs)) (number_line (codes "created") (count_of kind.Created cs)))
 
-report_is : (asked : Asked) (r : Ran) (cs : List Change) (es : List Event) → cs ≡ changes r.first r.last → r.events ≡ refusals r.first ++ es
-    → ((((head_lines asked r ++ count_lines cs) ++ change_lines cs) ++ event_lines (refusals r.first)) ++ event_lines es) ++ still_line r.still_changing ≡ report asked r
+report_is : (asked : Asked) (r : Ran) (cs : List Change) (os es : List Event) → cs ≡ changes r.first r.last → r.events ≡ os ++ es
+    → ((((head_lines asked r ++ count_lines cs) ++ change_lines cs) ++ event_lines os) ++ event_lines es) ++ still_line r.still_changing ≡ report asked r
 unfolding report
-report_is asked r cs es e v =
+report_is asked r cs os es e v =
     ap (λ t. t ++ still_line r.still_changing)
-    (append_assoc ((head_lines asked r ++ count_lines cs) ++ change_lines cs) (event_lines (refusals r.first)) (event_lines es)
-    ∙ (ap (λ t. ((head_lines asked r ++ count_lines cs) ++ change_lines cs) ++ t) (sym (lines_join (refusals r.first) es) ∙ ap event_lines (sym v))
+    (append_assoc ((head_lines asked r ++ count_lines cs) ++ change_lines cs) (event_lines os) (event_lines es)
+    ∙ (ap (λ t. ((head_lines asked r ++ count_lines cs) ++ change_lines cs) ++ t) (sym (lines_join os es) ∙ ap event_lines (sym v))
     ∙ ap (λ c. ((head_lines asked r ++ count_lines c) ++ change_lines c) ++ event_lines r.events) e))
 
 -- the texts after each part of a report
-module _ (asked : Asked) (r : Ran) (cs : List Change) (fs : State) (es : List Event) (t0 t1 t2 t3 t4 t5 t6 : List ℕ) where
-  pub report_by : t0 ≡ [] → t1 ≡ t0 ++ head_lines asked r → t2 ≡ t1 ++ count_lines cs → t3 ≡ t2 ++ change_lines cs → t4 ≡ t3 ++ event_lines (refusals fs) → t5 ≡ t4 ++ event_lines es
-      → t6 ≡ t5 ++ still_line r.still_changing → cs ≡ changes r.first r.last → fs ≡ r.first → r.events ≡ refusals r.first ++ es → t6 ≡ report asked r
-  report_by e0 e1 e2 e3 e4 e5 e6 e f v =
-      e6 ∙ (ap (λ t. t ++ still_line r.still_changing) (e5 ∙ ap (λ t. t ++ event_lines es) (e4 ∙ (ap (λ x. t3 ++ event_lines (refusals x)) f
-      ∙ ap (λ t. t ++ event_lines (refusals r.first)) (e3 ∙ ap (λ t. t ++ change_lines cs) (e2 ∙ ap (λ t. t ++ count_lines cs) (e1 ∙ ap (λ t. t ++ head_lines asked r) e0))))))
-      ∙ report_is asked r cs es e v)
+module _ (asked : Asked) (r : Ran) (cs : List Change) (os es : List Event) (t0 t1 t2 t3 t4 t5 t6 : List ℕ) where
+  pub report_by : t0 ≡ [] → t1 ≡ t0 ++ head_lines asked r → t2 ≡ t1 ++ count_lines cs → t3 ≡ t2 ++ change_lines cs → t4 ≡ t3 ++ event_lines os → t5 ≡ t4 ++ event_lines es
+      → t6 ≡ t5 ++ still_line r.still_changing → cs ≡ changes r.first r.last → r.events ≡ os ++ es → t6 ≡ report asked r
+  report_by e0 e1 e2 e3 e4 e5 e6 e v =
+      e6 ∙ (ap (λ t. t ++ still_line r.still_changing) (e5 ∙ ap (λ t. t ++ event_lines es) (e4
+      ∙ ap (λ t. t ++ event_lines os) (e3 ∙ ap (λ t. t ++ change_lines cs) (e2 ∙ ap (λ t. t ++ count_lines cs) (e1 ∙ ap (λ t. t ++ head_lines asked r) e0)))))
+      ∙ report_is asked r cs os es e v)
 
-pub all_tell : (fs : State) (es : List Event) (any : Bool) → any ≡ tells (refusals fs) → (any || tells es) ≡ tells (refusals fs ++ es)
-all_tell fs es any e = ap (λ b. b || tells es) e ∙ sym (tells_join (refusals fs) es)
+pub all_tell : (os es : List Event) (any : Bool) → any ≡ tells os → (any || tells es) ≡ tells (os ++ es)
+all_tell os es any e = ap (λ b. b || tells es) e ∙ sym (tells_join os es)
 
 pub empty_tells : (es : List Event) (b : Bool) → b ≡ not (tells es) → not b ≡ tells es
 empty_tells [] b e = ap not e

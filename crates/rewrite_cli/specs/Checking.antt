@@ -11,11 +11,16 @@ use Rattle.kept_files.specs.declared.reading.Reading.TheVariants as reading
 use Rattle.rw_host.specs.Files.{Files, first_bytes}
 use Rattle.kept_files.specs.Readings.{Reads}
 use Rattle.rewrite_cli.specs.declared.sources.TheConstants.{MOST_READ}
-use Rattle.rewrite_cli.specs.Sources.{is_read, count_read}
+use Rattle.rewrite_cli.specs.Sources.{count_read, is_counted}
+use Rattle.rewrite_cli.specs.Stubs.{is_stub, stub_reading}
 
--- what the file at a path reads as
+-- what the file at a path with these bytes reads as
+abbrev pub reading_of : Reads → List ℕ → Option (List ℕ) → Reading
+reading_of read path bytes = if is_stub path then stub_reading read bytes else read path bytes
+
+-- and the one that stands there
 abbrev pub reading_at : Reads → Files → List ℕ → Reading
-reading_at read files path = read path (option_map (first_bytes MOST_READ) (map.get files path))
+reading_at read files path = reading_of read path (option_map (first_bytes MOST_READ) (map.get files path))
 
 abbrev pub name_of : Cause → List ℕ
 name_of NotUtf8 = codes "NotUtf8"
@@ -40,9 +45,9 @@ abbrev pub line_of : List ℕ → Option Refused → List ℕ
 line_of path None = []
 line_of path (Some r) = refused_line path r
 
--- why the file at a path is refused; one that isn't read is never
+-- why the file at a path is refused; one that is neither read nor a stub is never
 unfoldable pub refusal_at : Reads → Files → List ℕ → Option Refused
-refusal_at read files path = if is_read path then refusal_in (reading_at read files path) else None
+refusal_at read files path = if is_counted path then refusal_in (reading_at read files path) else None
 
 -- of all files at these paths
 abbrev pub lines : Reads → Files → List (List ℕ) → List ℕ

@@ -3,7 +3,7 @@ use Rattle.std.specs.Prelude.{◌≡◌, ℕ, zero, suc, ◌<◌, ◌≤◌, Lis
 use Rattle.std.specs.Prelude.{Err, Vec}
 use Rattle.std.specs.Global.{Global}
 use Rattle.std.specs.Option.{option_map}
-use Rattle.std.specs.Ordering.{nat_cmp}
+use Rattle.std.specs.Ordering.{nat_cmp, match_ordering}
 use Rattle.std.specs.Cmp.Lexicographic.{slice_cmp}
 use Rattle.std.specs.declared.cmp.Ordering.TheVariants.{Less}
 use Rattle.std.specs.FinMap as map
@@ -12,6 +12,7 @@ use Rattle.journal_text.specs.Changes.{Change as Written, journal}
 use Rattle.journal_text.specs.Text.{journal_text}
 use Rattle.journal_text.specs.declared.batch.Entry.{Entry}
 use Rattle.run_journal.specs.Standing.{committed}
+use Rattle.kept_files.specs.States.{State}
 use Rattle.run_journal.specs.declared.fault.RecoverFault.{RecoverFault}
 use Rattle.run_journal.specs.declared.fault.RecoverFault.TheVariants as recover_fault
 use Rattle.run_history.specs.declared.reading.HistoryFault.{HistoryFault}
@@ -29,7 +30,7 @@ use Rattle.rewrite_cli.specs.declared.stop.Stop.TheVariants as stop
 use Rattle.rewrite_cli.specs.Answers.{damaged_line, recipe_fault_line}
 use Rattle.rewrite_cli.specs.Histories.{History, rows, damaged as no_history, history_path}
 use Rattle.rewrite_cli.specs.Journals.{Journal, closed, pending, damaged, laid, recovered, stood}
-use Rattle.rewrite_cli.specs.Running.{Ran, Ends, ran, fault, past, refusals}
+use Rattle.rewrite_cli.specs.Running.{Ran, Ends, ran, fault, past}
 
 -- stops of a call that only reads files
 unfoldable pub IsReadStop : Stop → Type 0
@@ -148,7 +149,7 @@ abbrev pub ran_told : ToldRan → Ran
 ran_told r = record {
   first = r.first.items;
   last = r.kept;
-  events = refusals r.first.items ++ r.events;
+  events = r.refused.items ++ r.events;
   cycles = r.cycles;
   still_changing = r.still_changing;
 }
@@ -170,3 +171,10 @@ unfoldable pub IsPlaceIn : List Written → List ℕ → ℕ → Type 0
 IsPlaceIn [] path at = at ≡ 0
 IsPlaceIn (w ∷ ws) path zero = slice_cmp nat_cmp w.0 path ≡ Less → ⊥
 IsPlaceIn (w ∷ ws) path (suc at) = (slice_cmp nat_cmp w.0 path ≡ Less) × IsPlaceIn ws path at
+
+-- ---- where a stub goes among the files of a state
+
+-- how many of these files, from the first on, stand before a path
+abbrev pub count_before : State → List ℕ → ℕ
+count_before [] path = 0
+count_before (f ∷ fs) path = match_ordering (slice_cmp nat_cmp f.path path) (suc (count_before fs path)) 0 0

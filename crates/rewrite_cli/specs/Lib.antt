@@ -1,3 +1,4 @@
+pub mod Stubs
 pub mod Sources
 pub mod Limits
 pub mod Journals

@@ -5,14 +5,14 @@ use Rattle.rw_host.specs.Files.{Files}
 use Rattle.rewrite_cli.specs.declared.limits.Limit.{Limit}
 use Rattle.rewrite_cli.specs.declared.limits.Limit.TheVariants as limit
 use Rattle.rewrite_cli.specs.declared.limits.TheConstants.{MOST_PATHS, MOST_FILES, MOST_IN_ALL}
-use Rattle.rewrite_cli.specs.Sources.{count_read, bytes_read}
+use Rattle.rewrite_cli.specs.Sources.{count_counted, bytes_read}
 
 -- The limit that a repository passes: the first of these. The paths that are listed count, and those of what the store
 -- stands for.
 unfoldable pub limit_of : Files → Files → Option Limit
 limit_of listed files =
     if nat_lt MOST_PATHS (map.len listed) || nat_lt MOST_PATHS (map.len files) then Some limit.Paths
-    else if nat_lt MOST_FILES (count_read (map.keys files)) then Some limit.Files
+    else if nat_lt MOST_FILES (count_counted (map.keys files)) then Some limit.Files
     else if nat_lt MOST_IN_ALL (bytes_read files (map.keys files)) then Some limit.Bytes
     else None
 

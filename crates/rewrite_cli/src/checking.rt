@@ -1,11 +1,13 @@
 // What `check` tells of a repository.
 ghost use Rattle.std.specs.Prelude.{◌≡◌, ◌≤◌, ◌<◌, ◌+◌, ◌++◌, ◌||◌, IsTrue, IfOk, IfErr, OnOk, Err, Some};
-ghost use Rattle.std.specs.Prelude.{[], is_some};
+ghost use Rattle.std.specs.Prelude.{[], codes, is_some, if◌then◌else◌};
 ghost use Rattle.std.specs.FinMap as map;
 ghost use Rattle.rw_host.specs.Files.{Rose};
 ghost use Rattle.kept_files.specs.Readings.{AreReadings, Reads};
-ghost use Rattle.rewrite_cli.specs.Sources.{bytes_at, bytes_read, count_read};
-ghost use Rattle.rewrite_cli.specs.Checking.{any_refused, count_line, line_of, lines, refusal_at, refusal_in};
+ghost use Rattle.rewrite_cli.specs.Sources.{bytes_at, bytes_read, count_counted, count_read};
+ghost use Rattle.rewrite_cli.specs.Stubs.{is_stub};
+ghost use Rattle.rewrite_cli.specs.Checking.{any_refused, count_line, line_of, lines, reading_of, refusal_at};
+ghost use Rattle.rewrite_cli.specs.Checking.{refusal_in};
 ghost use Rattle.rewrite_cli.specs.declared.limits.TheConstants.{MOST_FILES, MOST_PATHS};
 ghost use Rattle.rewrite_cli.specs.Ends.{IsReadStop};
 ghost use Rattle.rewrite_cli.specs.Meanings.{AreMeanings, Meanings};
@@ -16,8 +18,9 @@ ghost use Rattle.journal_text.specs.Changes.{Rises, changes_of};
 ghost use Rattle.rewrite_cli.specs.Statuses.{IsAnswered};
 
 use crate::limits::{Limit, MOST_IN_ALL};
-use crate::sources::{MOST_READ, count_read, is_read, list_paths};
+use crate::sources::{MOST_READ, count_read, is_counted, list_paths};
 use crate::stop::{Done, Stop};
+use crate::stubs::{STUB_NAME, is_stub};
 use crate::text::{put_number, put_refusal};
 use kept_files::{Readers, Reading};
 use run_journal::Entry;
@@ -47,8 +50,8 @@ fn count_line(alloc: Global, count: usize) -> Mem<Vec<u8>>
     Ok(line)
 }
 
-// Why a file is refused, if it is, by what it reads as.
-fn refusal_in(reading: Reading) -> Option<Refused>
+/// Why a file is refused, if it is, by what it reads as.
+pub fn refusal_in(reading: Reading) -> Option<Refused>
     ensures { result ≡ refusal_in reading }
 {
     match reading {
@@ -57,7 +60,15 @@ fn refusal_in(reading: Reading) -> Option<Refused>
     }
 }
 
+// The path at which a file is read.
+fn path_to_read(path: &str) -> &str
+    ensures { result.now ≡ (if is_stub path.now then codes "Stub.java" else path.now) }
+{
+    if is_stub(path) { STUB_NAME } else { path }
+}
+
 // Why a file of these bytes is refused, if it is.
+#[tactic(auto, using(crate::proofs::FoundInFile::read_by_path))]
 fn refusal_of<L: Ledger>(
     alloc: Global,
     readers: &Readers,
@@ -66,10 +77,10 @@ fn refusal_of<L: Ledger>(
     steps: &mut Steps<L>,
 ) -> Mem<Option<Refused>>
     ensures { (read : Reads) → AreReadings read →
-        IfOk result (λ refusal. refusal ≡ refusal_in (read path.now (Some bytes.items))) }
+        IfOk result (λ refusal. refusal ≡ refusal_in (reading_of read path.now (Some bytes.items))) }
 {
     let bytes = Shared::new(alloc, Text::from_vec(bytes))?;
-    let reading = readers.read_file(alloc, path, &bytes, steps)?;
+    let reading = readers.read_file(alloc, path_to_read(path), &bytes, steps)?;
     Ok(refusal_in(reading))
 }
 
@@ -86,7 +97,7 @@ fn note_refusal(findings: &mut Findings, path: &str, refusal: Option<Refused>) -
     Ok(())
 }
 
-// Reads the file at a path, where it is one that is read, and notes whether it is refused.
+// Reads the file at a path, where it is one that is read or a stub, and notes whether it is refused.
 #[tactic(auto, using(crate::proofs::FoundInFile::found_there, crate::proofs::SourceSteps::read_stops, crate::proofs::Idling::idling))]
 fn check_file<S: Store, L: Ledger>(
     alloc: Global,
@@ -117,7 +128,7 @@ fn check_file<S: Store, L: Ledger>(
     ensures stop { IfErr result IsReadStop }
     ensures count { S.read_faults store.old ≤ S.read_faults store.new }
 {
-    if !is_read(path) {
+    if !is_counted(path) {
         return Ok(());
     }
     let Some(bytes) = read_standing(alloc, store, entries, path, MOST_READ)? else {
@@ -193,7 +204,7 @@ fn check_listed<S: Store>(
     requires few_listed { IsTrue S.tells_files → map.len (S.files store.old) ≤ MOST_PATHS }
     requires few_paths { IsTrue S.tells_files → map.len (laid entries.now (S.files store.old)) ≤ MOST_PATHS }
     requires few_files { IsTrue S.tells_files →
-        count_read (map.keys (laid entries.now (S.files store.old))) ≤ MOST_FILES }
+        count_counted (map.keys (laid entries.now (S.files store.old))) ≤ MOST_FILES }
     ensures answer { IsTrue S.tells_files → (meanings : Meanings) → AreMeanings meanings →
         IsAnswered (check_answer meanings (S.files store.old) (laid entries.now (S.files store.old))) result
         (S.files store.new) }
@@ -217,7 +228,7 @@ fn check_listed<S: Store>(
     }
 }
 
-/// Reads each file that has a reader, and tells how many there are and which of them are refused.
+/// Reads each file that has a reader, and each stub. Tells how many files there are, and which of all are refused.
 #[tactic(auto, using(crate::proofs::Answering::answered, crate::proofs::Idling::idling))]
 pub fn check_repository<S: Store>(
     alloc: Global,

@@ -19,11 +19,12 @@
 //! files that stand for the old repository or for the new one (`any_moment`); after `run` and `recover` answer 0, 1 or
 //! 7 for the new one alone (`one_image`), with nothing left to sync (`synced`). No clause speaks of workers.
 //!
-//! Definitions, in this order: `Sources` and `Limits` (which files are read, and how many there may be), `Meanings` and
-//! `Opening` (the state and the plan that a run begins with), `Running` (how a recipe ends over a repository, by the
-//! scheduler's `run`), `Changes` (what is written), `Report` and `Checking` (the texts), `Histories` and `Journals`
-//! (the runs before, and what a stopped one left), `Answers`, `Statuses`, `Moments` (old or new). The words are those
-//! of the crate `command_words`. `Ends` and `Prepared` serve private functions alone.
+//! Definitions, in this order: `Stubs`, `Sources` and `Limits` (which files are read, and how many there may be),
+//! `Checking` (which are refused, and the text of `check`), `Meanings` and `Opening` (the state and the plan that a run
+//! begins with), `Running` (how a recipe ends over a repository, by the scheduler's `run`), `Changes` (what is
+//! written), `Report` (its text), `Histories` and `Journals` (the runs before, and what a stopped one left), `Answers`,
+//! `Statuses`, `Moments` (old or new). The words are those of the crate `command_words`. `Ends` and `Prepared` serve
+//! private functions alone.
 #![tactic(auto)]
 
 mod changes;
@@ -32,12 +33,14 @@ mod commits;
 mod histories;
 mod journals;
 mod limits;
+mod opening;
 mod planning;
 mod report;
 mod rewrite;
 mod running;
 mod sources;
 mod stop;
+mod stubs;
 #[cfg(test)]
 mod tests;
 mod text;

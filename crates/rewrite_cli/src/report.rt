@@ -1,6 +1,5 @@
 // What `run` and `dry` tell.
-ghost use Rattle.std.specs.Prelude.{◌≡◌, ◌++◌, ◌||◌, OnOk, IfOk, if◌then◌else◌};
-ghost use Rattle.scheduler.specs.Runs.{refusal_of};
+ghost use Rattle.std.specs.Prelude.{◌≡◌, ◌++◌, OnOk, IfOk, if◌then◌else◌};
 ghost use Rattle.command_words.specs.Asking.{asked_told};
 ghost use Rattle.rewrite_cli.specs.Answers.{tells};
 ghost use Rattle.rewrite_cli.specs.Changes.{changes as all_changes};
@@ -8,14 +7,13 @@ ghost use Rattle.rewrite_cli.specs.Ends.{ran_told};
 ghost use Rattle.rewrite_cli.specs.Report.{change_line, change_lines, count_lines, count_of, count_read_in, drop_name};
 ghost use Rattle.rewrite_cli.specs.Report.{dropped_line, event_line, event_lines, has_kind, head_lines, number_line};
 ghost use Rattle.rewrite_cli.specs.Report.{report, still_line, text_line};
-ghost use Rattle.rewrite_cli.specs.Running.{refusals};
 
 use crate::changes::Change;
 use crate::running::Ran;
 use crate::stop::Done;
 use crate::text::{name_of, put_number, put_refusal};
 use command_words::Asked;
-use kept_files::{KeptFile, Reading};
+use kept_files::KeptFile;
 use rw_base::{Mem, Place, Shared};
 use scheduler::{DropCause, Event};
 use std::alloc::Global;
@@ -45,12 +43,6 @@ fn one_if(test: bool) -> usize
     ensures { result ≡ (if test then 1 else 0) }
 {
     if test { 1 } else { 0 }
-}
-
-fn either(a: bool, b: bool) -> bool
-    ensures { result ≡ (a || b) }
-{
-    a || b
 }
 
 // How many of these changes are of a kind.
@@ -192,31 +184,14 @@ fn put_events(text: &mut Vec<u8>, events: &[Event]) -> Mem<()>
     Ok(())
 }
 
-// Appends the line of a file, if it is refused, and says whether it is.
-#[tactic(auto, using(crate::proofs::ReportSteps::refused))]
-fn put_file(text: &mut Vec<u8>, file: &KeptFile) -> Mem<bool>
-    ensures text { OnOk result (text.new.items ≡ text.old.items ++ event_lines (refusal_of file.now)) }
-    ensures refused { IfOk result (λ refused. refused ≡ tells (refusal_of file.now)) }
+// Whether there is any.
+fn tells(events: &[Event]) -> bool
+    ensures { result ≡ tells events.now }
 {
-    if let Reading::Refused(refused) = &file.reading {
-        put_refusal(text, file.path.as_str(), refused.place, refused.cause)?;
-        return Ok(true);
+    match events {
+        [_, ..] => true,
+        [] => false,
     }
-    Ok(false)
-}
-
-// Appends the lines of the files of a state that are refused, and says whether there are any.
-#[tactic(auto, using(crate::proofs::ReportSteps::all_refused))]
-fn put_refusals(text: &mut Vec<u8>, files: &[Shared<KeptFile>]) -> Mem<bool>
-    ensures text { OnOk result (text.new.items ≡ text.old.items ++ event_lines (refusals files.now)) }
-    ensures refused { IfOk result (λ refused. refused ≡ tells (refusals files.now)) }
-{
-    let mut any_refused = false;
-    for file in files {
-        let refused = put_file(text, file.get())?;
-        any_refused = either(any_refused, refused);
-    }
-    Ok(any_refused)
 }
 
 #[tactic(auto, unfolding(crate::specs::Report::still_line))]
@@ -274,7 +249,8 @@ pub fn report(alloc: Global, asked: Asked, ran: &Ran, changes: &[Change]) -> Mem
     put_head(&mut text, asked, ran)?;
     put_counts(&mut text, changes)?;
     put_changes(&mut text, changes)?;
-    let any_refused = put_refusals(&mut text, &ran.first)?;
+    put_events(&mut text, &ran.refused)?;
+    let any_refused = tells(&ran.refused);
     put_events(&mut text, ran.events.as_slice())?;
     put_still(&mut text, ran.still_changing)?;
     Ok(Done {

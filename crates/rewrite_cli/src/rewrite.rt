@@ -183,7 +183,7 @@ fn perform<S: Store>(alloc: Global, store: &mut S, command: Command) -> Result<D
 /// |---|---|
 /// | `run --recipe NAME` | the recipe of the file `rewrite.yml` is applied, and what it changes is committed |
 /// | `dry --recipe NAME` | it is told what `run` would do; nothing is written |
-/// | `check` | each Java, YAML and properties file is read; none is written |
+/// | `check` | each Java, YAML and properties file and each stub is read; none is written |
 /// | `recover` | a commit that was stopped is finished; `run` begins with this too |
 /// | `history` | the runs that changed files are told |
 ///

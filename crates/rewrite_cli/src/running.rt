@@ -18,14 +18,16 @@ ghost use Rattle.rewrite_cli.specs.Moments.{Idle, IsLeftByRun};
 ghost use Rattle.rewrite_cli.specs.Running.{ended};
 ghost use Rattle.rewrite_cli.specs.Sources.{sources_of};
 ghost use Rattle.rewrite_cli.specs.Statuses.{IsAnswered};
+ghost use Rattle.rewrite_cli.specs.Stubs.{stubs_of};
 
 use crate::changes::{Change, changes_between};
 use crate::commits::commit_changes;
 use crate::histories::runs_of;
 use crate::limits::Limit;
+use crate::opening::opening_events;
 use crate::planning::plan_of;
 use crate::report::report;
-use crate::sources::source_files;
+use crate::sources::{Sources, read_sources};
 use crate::stop::{Done, Stop};
 use command_words::Asked;
 use j_repair::{Attributed, attribute_all};
@@ -33,18 +35,20 @@ use kept_files::{KeptFile, Readers};
 use run_history::RunRow;
 use run_journal::{Entry, a_commit_makes_the_repository};
 use rw_base::{Mem, Shared};
-use rw_host::{SourceFile, Steps, Store};
+use rw_host::{Steps, Store};
 use scheduler::{Event, RunFault, run_plan};
 use sqlite_items::Items;
 use std::alloc::Global;
 use std::marker::Brand;
 use std::sync::ledger::{Blank, Ledger};
 
-/// A run: the files that it began with, those that it ended in, and what it tells.
+/// A run: the files that it began with, those that it ended in, and what it tells, first of those that it began with
+/// and of stubs.
 #[derive(Drop)]
 pub struct Ran {
     pub first: Vec<Shared<KeptFile>>,
     pub kept: Attributed,
+    pub refused: Vec<Event>,
     pub events: Items<Event>,
     pub cycles: u32,
     pub still_changing: bool,
@@ -72,20 +76,22 @@ fn copies(alloc: Global, files: &[Shared<KeptFile>]) -> Mem<Vec<Shared<KeptFile>
     Ok(out)
 }
 
-// Runs a recipe over these source files, with the recipe file of a store, and writes none.
+// Runs a recipe over these source files, with the recipe file of a store, and writes none. Stubs are only read.
 #[tactic(auto, using(crate::proofs::Performing::runs, crate::proofs::Idling::idling))]
 fn run_recipe<S: Store, L: Ledger>(
     alloc: Global,
     store: &mut S,
     entries: &[Entry],
-    sources: Vec<SourceFile>,
+    sources: Sources,
     asked: Asked,
     blank: Blank,
 ) -> Result<Ran, Stop>
     requires rises { Rises [] (changes_of entries.now) }
     requires sources { IsTrue S.tells_files →
-        sources.items ≡ sources_of (laid entries.now (S.files store.old)) }
-    requires in_order { IsInOrder (paths_of sources.items) }
+        sources.files.items ≡ sources_of (laid entries.now (S.files store.old)) }
+    requires stubs { IsTrue S.tells_files →
+        sources.stubs.items ≡ stubs_of (laid entries.now (S.files store.old)) }
+    requires in_order { IsInOrder (paths_of sources.files.items) }
     requires name { blank.name ≡ L.name }
     requires parts { blank.parts ≡ L.parts }
     requires some_part { 0 < L.parts }
@@ -102,12 +108,14 @@ fn run_recipe<S: Store, L: Ledger>(
     let readers = Readers::new(alloc)?;
     let mut steps = Steps::<L>::new(blank);
     let plan = plan_of(alloc, store, entries, &readers, asked.recipe, &mut steps)?;
-    let mut kept = attribute_all(alloc, readers, sources, &mut steps)?;
+    let mut kept = attribute_all(alloc, readers, sources.files, &mut steps)?;
+    let refused = opening_events(alloc, &kept, sources.stubs, &mut steps)?;
     let first = copies(alloc, kept.files())?;
     match run_plan(alloc, &mut kept, &plan, asked.cycles, &mut steps) {
         Ok(outcome) => Ok(Ran {
             first,
             kept,
+            refused,
             events: outcome.events,
             cycles: outcome.cycles,
             still_changing: outcome.still_changing,
@@ -133,7 +141,7 @@ pub fn dry_run<S: Store>(
     ensures cause { result ≡ Err Stop.ReadFault → Rose (S.read_faults store.old) (S.read_faults store.new) }
     ensures stop { IfErr result IsRunStop }
 {
-    let sources = source_files(alloc, store, entries)?;
+    let sources = read_sources(alloc, store, entries)?;
     let ran = run_recipe::<S, Brand>(alloc, store, entries, sources, asked, Blank::new(1))?;
     let changes = changes_between(alloc, &ran.first, ran.kept.files())?;
     let done = report(alloc, asked, &ran, &changes)?;
@@ -167,7 +175,7 @@ fn prepare<S: Store>(alloc: Global, store: &mut S, asked: Asked) -> Result<Prepa
     ensures count { S.read_faults store.old ≤ S.read_faults store.new }
     ensures other_count { S.write_faults store.new ≡ S.write_faults store.old }
 {
-    let sources = source_files(alloc, store, &[])?;
+    let sources = read_sources(alloc, store, &[])?;
     let runs = runs_of(alloc, store, &[])?;
     let ran = match run_recipe::<S, Brand>(alloc, store, &[], sources, asked, Blank::new(1)) {
         Ok(ran) => ran,

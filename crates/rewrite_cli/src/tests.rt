@@ -329,3 +329,64 @@ fn damage_is_told(rt: HostRuntime) -> Result<(), Fail> {
     assert_eq!(rt; text.as_slice(), NO_HISTORY);
     Ok(())
 }
+
+// ---- stubs
+
+const STUB: &str = ".rewrite/classpath/x.java";
+
+const REFUSED: &[u8] = b"class {";
+
+const ACCEPTED: &[u8] = b"class X { int of(int n); }";
+
+// How many calls of the store it takes to put the files there.
+const STUBS_READY: u32 = 12;
+
+// A store with two refused Java files, a properties file that a run changes, an accepted stub and one of this text,
+// whose calls fail from this one on.
+fn store_with_stub(alloc: Global, stub: &[u8], call: u32) -> Result<MemoryStore, Fail> {
+    let stop = call.saturating_add(STUBS_READY);
+    let mut store = MemoryStore::new(alloc, Vec::new(alloc), Vec::new(alloc), stop)?;
+    put(alloc, &mut store, "-a.java", REFUSED)?;
+    put(alloc, &mut store, "a.java", REFUSED)?;
+    put(alloc, &mut store, STUB, stub)?;
+    put(alloc, &mut store, ".rewrite/classpath/y.java", ACCEPTED)?;
+    put(alloc, &mut store, "p.properties", b"old=1")?;
+    put(alloc, &mut store, "rewrite.yml", RECIPES)?;
+    Ok(store)
+}
+
+#[test]
+fn stubs_are_told(rt: HostRuntime) -> Result<(), Fail> {
+    let alloc = rt.alloc();
+    let all: &[u8] = b"files 3\nrefused -a.java 1:7 Unexpected\n\
+refused .rewrite/classpath/x.java 1:7 Unexpected\nrefused a.java 1:7 Unexpected\n";
+    let files: &[u8] = b"files 3\nrefused -a.java 1:7 Unexpected\nrefused a.java 1:7 Unexpected\n";
+    let report: &[u8] = b"recipe shop.R\ncycles 1\nfiles 3\nchanged 1\ncreated 0\nremoved 0\n\
+changed p.properties\nrefused -a.java 1:7 Unexpected\nrefused .rewrite/classpath/x.java 1:7 Unexpected\n\
+refused a.java 1:7 Unexpected\n";
+    let fault: &[u8] = b"read fault\n";
+    let table: [(&[&str], &[u8], u32, u8, &[u8]); 7] = [
+        (&["check"], REFUSED, NEVER, 1, all),
+        (&["check"], ACCEPTED, NEVER, 1, files),
+        (&["check"], ACCEPTED, 4, 4, fault),
+        (&["check"], ACCEPTED, 7, 4, fault),
+        (&["check"], ACCEPTED, 8, 1, files),
+        (&["dry", "--recipe", "shop.R"], REFUSED, NEVER, 1, report),
+        (&["run", "--recipe", "shop.R"], REFUSED, NEVER, 1, report),
+    ];
+    for (words, stub, call, status, text) in table {
+        let mut store = store_with_stub(alloc, stub, call)?;
+        let told = asked(alloc, &mut store, words)?;
+        assert_eq!(rt; told.0, status, "{words:?}, where call {call} fails");
+        assert_eq!(rt;
+            told.1.as_slice(),
+            text,
+            "{words:?}, where call {call} fails"
+        );
+    }
+    let mut store = store_with_stub(alloc, REFUSED, NEVER)?;
+    let _ = asked(alloc, &mut store, &["run", "--recipe", "shop.R"])?;
+    assert!(rt; has(alloc, &mut store, STUB, REFUSED)?);
+    assert!(rt; has(alloc, &mut store, "p.properties", b"new=1")?);
+    Ok(())
+}

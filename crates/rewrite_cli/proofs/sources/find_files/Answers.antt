@@ -5,7 +5,7 @@ use Rattle.j_repair.specs.Changes.{paths_of}
 use Rattle.rewrite_cli.specs.Journals.{laid}
 use Rattle.rewrite_cli.proofs.Idling.{idle_then}
 use Rattle.rewrite_cli.proofs.Walked.{bytes_more, no_items}
-use Rattle.rewrite_cli.proofs.SourceSteps.{sources_more, sources_all, order_all}
+use Rattle.rewrite_cli.proofs.SourceSteps.{sources_more, sources_all, stubs_more, stubs_all, order_all}
 use Rattle.rewrite_cli.proofs.sources.find_files.Goals as goal
 
 pub loop-path-preserved : goal.loop-path-preserved
@@ -18,6 +18,9 @@ loop-path-preserved g c =
       found = λ told.
           sources_more files c.in-Some.path left all cut _ _ (ap (laid c.args.entries.now) c.loop-path.invariant.files) (λ i. c.in-Some.path) _ _ _
           (c.in_ok-find_file.ensures.files told) (c.loop-path.invariant.found told);
+      stubs = λ told.
+          stubs_more files c.in-Some.path left all cut _ _ (ap (laid c.args.entries.now) c.loop-path.invariant.files) (λ i. c.in-Some.path) _ _ _
+          (c.in_ok-find_file.ensures.stubs told) (c.loop-path.invariant.stubs told);
       order = c.in_ok-find_file.ensures.in_order left (subst (λ ps. IsInOrder (paths_of c.loop-path.found.files.items ++ ps)) cut c.loop-path.invariant.order);
       bytes = λ told.
           bytes_more files c.in-Some.path left all cut _ _ (ap (laid c.args.entries.now) c.loop-path.invariant.files) (λ i. c.in-Some.path) _ _ _
@@ -35,6 +38,12 @@ returns-clause-files g c = λ told.
     sources_all (laid c.args.entries.now (g.S.Store.files c.args.store.now)) c.loop-path.found.files.items _ (into_iter_items c.loop-path.path-iterator)
     (no_items (into_iter_items c.loop-path.path-iterator) (sym c.loop-path.invariant.len ∙ c.in-None.ensures.steps.0))
     (c.loop-path.invariant.found told)
+
+pub returns-clause-stubs : goal.returns-clause-stubs
+returns-clause-stubs g c = λ told.
+    stubs_all (laid c.args.entries.now (g.S.Store.files c.args.store.now)) c.loop-path.found.stubs.items _ (into_iter_items c.loop-path.path-iterator)
+    (no_items (into_iter_items c.loop-path.path-iterator) (sym c.loop-path.invariant.len ∙ c.in-None.ensures.steps.0))
+    (c.loop-path.invariant.stubs told)
 
 pub returns-clause-in_order : goal.returns-clause-in_order
 returns-clause-in_order g c =

@@ -4,6 +4,7 @@ use Rattle.rw_host.specs.Files.{IsInOrder}
 use Rattle.j_repair.specs.Changes.{paths_of}
 use Rattle.rewrite_cli.specs.declared.limits.TheConstants.{MOST_IN_ALL}
 use Rattle.rewrite_cli.specs.Sources.{bytes_read, sources_at}
+use Rattle.rewrite_cli.specs.Stubs.{stubs_at}
 use Rattle.rewrite_cli.specs.Journals.{laid}
 use Rattle.rewrite_cli.specs.Moments.{Idle}
 use Rattle.rewrite_cli.proofs.sources.find_files.Given as goal
@@ -12,6 +13,7 @@ abbrev pub invariant-loop-path : goal.invariant-loop-path
 invariant-loop-path g l =
     record {
       found : IsTrue g.S.Store.tells_files → l.found.files.items ++ sources_at (laid l.fn.entries (g.S.Store.files l.initial.store)) (into_iter_items l.path-iterator) ≡ sources_at (laid l.fn.entries (g.S.Store.files l.initial.store)) l.fn.paths.items;
+      stubs : IsTrue g.S.Store.tells_files → l.found.stubs.items ++ stubs_at (laid l.fn.entries (g.S.Store.files l.initial.store)) (into_iter_items l.path-iterator) ≡ stubs_at (laid l.fn.entries (g.S.Store.files l.initial.store)) l.fn.paths.items;
       order : IsInOrder (paths_of l.found.files.items ++ into_iter_items l.path-iterator);
       bytes : IsTrue g.S.Store.tells_files → l.found.bytes + bytes_read (laid l.fn.entries (g.S.Store.files l.initial.store)) (into_iter_items l.path-iterator) ≡ bytes_read (laid l.fn.entries (g.S.Store.files l.initial.store)) l.fn.paths.items;
       len : into_iter_len l.path-iterator ≡ length (into_iter_items l.path-iterator);
