@@ -1,0 +1,5 @@
+pub mod Tables
+pub mod Trees
+pub mod Sites
+pub mod Followed
+pub mod Parts
