@@ -1,0 +1,3 @@
+pub mod ArrayTypes
+pub mod Looking
+pub mod StringTests
