@@ -1,0 +1,3 @@
+mod Decided
+mod Inward
+mod Looked

@@ -1,0 +1,16 @@
+use Rattle.expression_names.specs.Bodies.{class_type, class_of_super, qualified_super}
+use Rattle.judging.specs.Judging.{give}
+use Rattle.judging.specs.JudgingLaws.{judged_give}
+use Rattle.expression_names.proofs.Looked.{after, looked}
+use Rattle.expression_names.proofs.receivers.qualified_super.Goals as goal
+
+pub returns : goal.returns
+unfolding qualified_super
+returns g c =
+    let w = g.C.Classes.world c.args.c.now in
+    let mid = after c.args.log.now c.class_of_super.new.asks in
+    rw c.class_type.ensures record {
+      judged =
+          looked (class_of_super c.args.before.now) (λ t. give (class_type t)) w c.args.log.now mid c.class_of_super.new.asks c.in_ok-class.class
+          (class_type c.in_ok-class.class) c.in_ok-class.ensures (judged_give w mid (class_type c.in_ok-class.class));
+    }

@@ -1,0 +1,5 @@
+pub mod Rows
+pub mod Matching
+pub mod PartsLeft
+pub mod Onwards
+pub mod Elements
