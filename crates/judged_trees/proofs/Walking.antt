@@ -1,18 +1,21 @@
 -- The parts of a node, so far and the rest.
-use Rattle.std.proofs.Common.{◌≡◌, ℕ, List, [], ◌∷◌, ◌++◌, refl, sym, ◌∙◌, ap, subst, append-nil, append_assoc, length}
-use Rattle.std.proofs.Common.{take, drop, ◌≤◌, ◌+◌, ◌-◌, arith, length-append, length-drop}
+use Rattle.std.proofs.Common.{◌≡◌, ℕ, List, [], ◌∷◌, ◌++◌, refl, sym, ◌∙◌, ap, append-nil, append_assoc, length}
+use Rattle.std.proofs.Common.{take, drop, ◌≤◌, ◌-◌, arith, length-append, length-drop}
 use Rattle.std.proofs.Math.Seq.{take-append_seam, drop-append_seam}
 use Rattle.std.proofs.lemmas.List.{take_all}
 use Rattle.jtypes.specs.World.{World}
+use Rattle.rw_base.specs.Arena.{AreBelow}
+use Rattle.rw_base.specs.declared.tree.Part.{Part}
+use Rattle.rw_base.specs.declared.tree.Part.TheVariants as part
 use Rattle.rw_base.specs.Trees.{none, leaf, node, Numbered}
 use Rattle.j_names.specs.declared.context.Frame.{Frame}
 use Rattle.judging.specs.declared.log.Log.{Log}
-use Rattle.judging.specs.Judging.{Judging, give, and_then, Judged}
+use Rattle.judging.specs.Judging.{give, and_then, Judged}
 use Rattle.judging.specs.JudgingLaws.{judged_give, judged_then}
 use Rattle.judged_trees.specs.Followed.{NodeJudged, Scoped}
 use Rattle.judged_trees.specs.Parts.{part_of, PartJudged}
 use Rattle.judged_trees.specs.Tables.{Site, Tables}
-use Rattle.judged_trees.specs.Trees.{parts, judged, placed, closed}
+use Rattle.judged_trees.specs.Trees.{parts, judged, placed}
 
 taken : {A : Type 0} (n : ℕ) (all front back : List A) → n ≡ length front → all ≡ front ++ back → take n all ≡ front
 taken n all front back e h = rw (h, e) (take-append_seam front back)
@@ -134,3 +137,9 @@ module _ {V G : Type 0} (t : Tables V G) (site : Site G) (w : World) where
         frames = told.frames ∙ append_assoc s before told.left;
         values = ev;
       }
+
+-- what lies below a node of the tree lies in the tree
+pub all_below : (leaf_count n m : ℕ) (ps : List Part) → n ≤ m → AreBelow leaf_count n ps → AreBelow leaf_count m ps
+all_below leaf_count n m [] le b = b
+all_below leaf_count n m (part.Leaf i ∷ ps) le b = (b.0, all_below leaf_count n m ps le b.1)
+all_below leaf_count n m (part.Node k ∷ ps) le b = (omega (arith, le, b.0), all_below leaf_count n m ps le b.1)

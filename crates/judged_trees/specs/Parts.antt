@@ -1,6 +1,6 @@
 -- One part of a node, as its own function judges it.
 use Rattle.std.specs.Prelude.{◌≡◌, ℕ, List, [], ◌∷◌, ◌++◌}
-use Rattle.rw_base.specs.Trees.{Numbered, node}
+use Rattle.rw_base.specs.Trees.{Numbered}
 use Rattle.jtypes.specs.World.{World}
 use Rattle.j_names.specs.declared.context.Frame.{Frame}
 use Rattle.judging.specs.declared.log.Log.{Log}

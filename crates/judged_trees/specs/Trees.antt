@@ -1,5 +1,5 @@
 -- The judgement of a tree: the parts of each node from the left, each in its scope, and then the node.
-use Rattle.std.specs.Prelude.{ℕ, List, [], ◌∷◌, ◌++◌}
+use Rattle.std.specs.Prelude.{List, [], ◌∷◌, ◌++◌}
 use Rattle.rw_base.specs.Trees.{none, leaf, node, Numbered}
 use Rattle.j_names.specs.declared.context.Frame.{Frame}
 use Rattle.judging.specs.Judging.{Judging, give, and_then}

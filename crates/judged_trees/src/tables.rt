@@ -40,7 +40,7 @@ pub trait TreeTables {
     ) -> Mem<Self::Given>
         requires fits { fits self.now tree.now }
         requires node { node.0 < length tree.now.nodes }
-        requires below { AreBelow (length tree.now.leaves) node.0 parts.now }
+        requires below { AreBelow (length tree.now.leaves) (length tree.now.nodes) parts.now }
         requires part { from < length parts.now }
         ensures { IfOk result (λ inner. inner ≡ (tables self.now).given_to (site_of tree.now node.0 parts.now given.now)
             (forest_of tree.now.nodes (drop from parts.now)) values.now) };
@@ -60,7 +60,7 @@ pub trait TreeTables {
     ) -> Mem<()>
         requires fits { fits self.now tree.now }
         requires node { node.0 < length tree.now.nodes }
-        requires below { AreBelow (length tree.now.leaves) node.0 parts.now }
+        requires below { AreBelow (length tree.now.leaves) (length tree.now.nodes) parts.now }
         requires part { from < length parts.now }
         requires outer { outer ≤ length frames.old }
         ensures { OnOk result (Scoped ((tables self.now).scope_for (site_of tree.now node.0 parts.now given.now)
@@ -80,7 +80,7 @@ pub trait TreeTables {
     ) -> Mem<Self::Value>
         requires fits { fits self.now tree.now }
         requires node { node.0 < length tree.now.nodes }
-        requires below { AreBelow (length tree.now.leaves) node.0 parts.now }
+        requires below { AreBelow (length tree.now.leaves) (length tree.now.nodes) parts.now }
         ensures { IfOk result (λ value. Judged ((tables self.now).value_of
             (site_of tree.now node.0 parts.now given.now) values.now frames.now)
             (world self.now) log.old log.new value) };
@@ -98,7 +98,7 @@ pub trait TreeTables {
     ) -> Mem<()>
         requires fits { fits self.now tree.now }
         requires node { node.0 < length tree.now.nodes }
-        requires below { AreBelow (length tree.now.leaves) node.0 parts.now }
+        requires below { AreBelow (length tree.now.leaves) (length tree.now.nodes) parts.now }
         requires outer { outer ≤ length frames.old }
         ensures { OnOk result (frames.new ≡ take outer frames.old ++ (tables self.now).left_in_scope
             (site_of tree.now node.0 parts.now given.now) values.now (drop outer frames.old)) };

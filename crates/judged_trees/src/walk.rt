@@ -15,6 +15,7 @@ use std::alloc::Global;
 
 /// Judges a node by these of its parts, where the values of the parts are put behind those that wait.
 #[cycle(judge)]
+#[tactic(auto, using(crate::proofs::Walking::all_below))]
 fn judge_parts<T: TreeTables>(
     tables: &T,
     tree: &Tree,
@@ -53,6 +54,7 @@ fn judge_parts<T: TreeTables>(
 
 /// Judges a part of a node in its scope, and puts its value.
 #[cycle(judge)]
+#[tactic(auto, using(crate::proofs::Walking::all_below))]
 fn judge_part<T: TreeTables>(
     tables: &T,
     tree: &Tree,

@@ -1,4 +1,4 @@
-use Rattle.std.proofs.Common.{◌≡◌, ◌∙◌, sym, ap, subst, refl, ℕ, ◌+◌, ◌*◌, ◌<◌, ◌≤◌, List, length, take, drop, ◌-◌, ◌++◌, ◌∷◌, [], arith}
+use Rattle.std.proofs.Common.{◌∙◌, sym, ap, ◌+◌, length, drop, ◌++◌, ◌∷◌, [], arith}
 use Rattle.rw_base.specs.Arena.{kind_of}
 use Rattle.rw_base.specs.Laid.{kids_of, forest_of}
 use Rattle.rw_base.specs.PartLaws.{leaf_next, node_next, none_next, below_next, node_below}

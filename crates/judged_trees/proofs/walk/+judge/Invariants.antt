@@ -1,4 +1,4 @@
-use Rattle.std.proofs.Common.{◌≡◌, ◌+◌, ◌*◌, ◌<◌, length, drop, List}
+use Rattle.std.proofs.Common.{◌+◌, ◌*◌, length, drop}
 use Rattle.rw_base.specs.Arena.{AreBelow}
 use Rattle.rw_base.specs.Laid.{forest_of}
 use Rattle.judged_trees.specs.Sites.{site_of}

@@ -1,0 +1,4 @@
+pub mod Declarations
+pub mod Elements
+pub mod Cases
+pub mod Alike
