@@ -3,6 +3,7 @@ ghost use Rattle.std.specs.Prelude.{◌≡◌, ◌++◌, ◌∷◌, [], map, IfO
 ghost use Rattle.j_names.specs.Members.{joined};
 ghost use Rattle.class_table.specs.Declarations.{or_itself, enclosing_class, scope_of, inside};
 
+use crate::lists::kept;
 use declared_types::{ScopeParams, WrittenParam};
 use j_names::{EnclosingClass, UnitContext};
 use jtypes::{Name, Names, SharedList};
@@ -50,7 +51,7 @@ fn names_of(alloc: Global, params: &[WrittenParam]) -> Mem<SharedList<Name>>
     for param in params {
         out.push(param.name.copy()?)?;
     }
-    SharedList::new(alloc, out)
+    kept(alloc, out)
 }
 
 fn copied_class(class: &EnclosingClass) -> Mem<EnclosingClass>
@@ -115,7 +116,7 @@ fn enclosing_inside(
         name: name.copy()?,
         type_params: names_of(alloc, params.as_slice())?,
     })?;
-    SharedList::new(alloc, classes)
+    kept(alloc, classes)
 }
 
 fn scopes_inside(
@@ -129,7 +130,7 @@ fn scopes_inside(
     scopes.push(ScopeParams {
         params: params.copy()?,
     })?;
-    SharedList::new(alloc, scopes)
+    kept(alloc, scopes)
 }
 
 // What is around the members of a type.

@@ -8,6 +8,7 @@ ghost use Rattle.class_table.specs.Declarations.{superclass, interfaces, before_
 ghost use Rattle.class_table.specs.Assembling.{place_of, assembled};
 
 use crate::around::{Around, copied_context, joined, top_of};
+use crate::lists::kept;
 use crate::members::{Members, add_members};
 use crate::modifiers::Mods;
 use crate::parts::node_behind;
@@ -108,8 +109,8 @@ fn members_of(
     };
     add_members(alloc, tree, bytes, n, kind, none, names, &mut all)?;
     let Members { fields, methods } = all;
-    let fields = SharedList::new(alloc, fields)?;
-    let methods = SharedList::new(alloc, methods)?;
+    let fields = kept(alloc, fields)?;
+    let methods = kept(alloc, methods)?;
     Ok(TypeMembers { fields, methods })
 }
 

@@ -11,6 +11,7 @@ use crate::around::{Around, inside};
 use crate::assembling::declared;
 use crate::file::file_context;
 use crate::kinds::{ANNOTATION_TYPE, BODY, CLASS, ENUM, INTERFACE, MEMBER, TYPE_DECL};
+use crate::lists::kept;
 use crate::modifiers::says;
 use declared_types::{DeclaredType, Skeleton};
 use java_lex::class::PRIVATE;
@@ -201,6 +202,6 @@ pub fn skeleton(alloc: Global, tree: &Tree, bytes: &[u8], names: &mut Names) -> 
     let mut types = Vec::new(alloc);
     add_declared(alloc, tree, bytes, names, &mut types)?;
     Ok(Skeleton {
-        types: SharedList::new(alloc, types)?,
+        types: kept(alloc, types)?,
     })
 }

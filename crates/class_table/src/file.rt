@@ -8,6 +8,7 @@ ghost use Rattle.class_table.specs.Files.{text_in, parts_or_none, package_name, 
 ghost use Rattle.class_table.specs.Files.{import_node, imports_in, file_context};
 
 use crate::kinds::{IMPORT, PACKAGE, QUALIFIED_NAME};
+use crate::lists::kept;
 use crate::parts::{has, node_in, word_in};
 use j_names::{ImportRow, UnitContext};
 use java_lex::class::{ID, STAR, STATIC};
@@ -201,7 +202,7 @@ pub(crate) fn file_context(
 {
     Ok(UnitContext {
         package: package_name(alloc, tree, bytes, root, names)?,
-        imports: SharedList::new(alloc, imports_in(alloc, tree, bytes, root, names)?)?,
+        imports: kept(alloc, imports_in(alloc, tree, bytes, root, names)?)?,
         enclosing: SharedList::empty(),
     })
 }

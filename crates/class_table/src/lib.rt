@@ -36,6 +36,7 @@ mod declaring;
 mod fields;
 mod file;
 mod kinds;
+mod lists;
 mod members;
 mod methods;
 mod modifiers;

@@ -6,12 +6,13 @@ ghost use Rattle.class_table.specs.Members.{typed, headed, opened, param, params
 ghost use Rattle.class_table.specs.Members.{dims_behind, method_name, method_result};
 
 use crate::kinds::{AFTER_GENERIC, AFTER_TYPE, DIMENSIONS, GENERIC, METHOD, PARAM};
+use crate::lists::kept;
 use crate::modifiers::Mods;
 use crate::parts::{count_in, has, node_in};
 use crate::types::{name_in, type_of, type_params};
 use declared_types::{Base, Written, WrittenMethod};
 use java_lex::class::{ELLIPSIS, ID};
-use jtypes::{Name, Names, SharedList};
+use jtypes::{Name, Names};
 use rw_base::{Mem, NodeId, Part, Tree};
 use std::alloc::Global;
 
@@ -179,7 +180,7 @@ fn method(
     let is_named = has(tree, head, ID);
     let name = method_name(alloc, tree, bytes, head, is_named, names)?;
     let type_params = type_params(alloc, tree, bytes, n, names)?;
-    let params = SharedList::new(alloc, params_in(alloc, tree, bytes, m, names)?)?;
+    let params = kept(alloc, params_in(alloc, tree, bytes, m, names)?)?;
     let result = method_result(alloc, tree, bytes, typed(tree, n), is_named, names)?;
     Ok(WrittenMethod {
         name,

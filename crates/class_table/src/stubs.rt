@@ -5,10 +5,11 @@ ghost use Rattle.java_reader.specs.Reading.{IsJavaRead, AreReadSteps};
 ghost use Rattle.class_table.specs.Stubs.{AreDeclaredBy, AreAdded, IsPrelude};
 
 use crate::declaring::{add_declared, skeleton};
+use crate::lists::kept;
 use crate::prelude_texts::{JAVA_IO, JAVA_LANG, JAVA_LANG_ANNOTATION, JAVA_UTIL};
 use declared_types::{DeclaredType, Skeleton};
 use java_reader::{JavaReader, UNIT};
-use jtypes::{Names, SharedList};
+use jtypes::Names;
 use rw_base::{Mem, NoMemory, ReadFault};
 use rw_host::Steps;
 use std::alloc::Global;
@@ -85,7 +86,7 @@ fn prelude_with<L: Ledger>(
     add_text(alloc, reader, JAVA_IO, names, &mut steps, &mut types)?;
     add_text(alloc, reader, JAVA_UTIL, names, &mut steps, &mut types)?;
     Ok(Skeleton {
-        types: SharedList::new(alloc, types)?,
+        types: kept(alloc, types)?,
     })
 }
 

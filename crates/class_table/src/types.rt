@@ -8,6 +8,7 @@ ghost use Rattle.class_table.specs.TypesWritten.{type_at, listed, type_param, ea
 ghost use Rattle.class_table.specs.TypesWritten.{type_params};
 
 use crate::kinds::{DIMENSIONS, TYPE_PARAM, TYPE_PARAMS, TYPES};
+use crate::lists::kept;
 use crate::parts::{count_in, is_type, node_in, type_in, word_in};
 use declared_types::{Base, NamePart, Written, WrittenParam};
 use java_lex::class::{ID, PRIM};
@@ -82,7 +83,7 @@ fn later_names(
             }
         }
     }
-    SharedList::new(alloc, out)
+    kept(alloc, out)
 }
 
 fn named(alloc: Global, tree: &Tree, bytes: &[u8], n: NodeId, names: &mut Names) -> Mem<Base>
@@ -209,10 +210,10 @@ pub(crate) fn listed(
         None => Ok(SharedList::empty()),
         Some(n) => {
             if tree.kind(n) == TYPES {
-                return SharedList::new(alloc, written_types(alloc, tree, bytes, n, names)?);
+                return kept(alloc, written_types(alloc, tree, bytes, n, names)?);
             }
             let lone = written(alloc, tree, bytes, n, 0, names)?;
-            SharedList::new(alloc, vec![in alloc; lone]?)
+            kept(alloc, vec![in alloc; lone]?)
         }
     }
 }
@@ -291,6 +292,6 @@ pub(crate) fn type_params(
 {
     match node_in(tree, n, TYPE_PARAMS) {
         None => Ok(SharedList::empty()),
-        Some(m) => SharedList::new(alloc, each_type_param(alloc, tree, bytes, m, names)?),
+        Some(m) => kept(alloc, each_type_param(alloc, tree, bytes, m, names)?),
     }
 }

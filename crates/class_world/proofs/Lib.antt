@@ -4,3 +4,4 @@ pub mod OneMore
 pub mod Worlds
 pub mod Owned
 pub mod MoreRows
+pub mod Halves

@@ -1,7 +1,6 @@
 -- What a world of rows answers: a class has a row, which holds its header and, by name, its fields and methods.
 use Rattle.std.specs.Prelude.{◌≡◌, ℕ, List, [], Option, None, Some, filter}
 use Rattle.indexmap.specs.IndexMap.{IndexMap, get}
-use Rattle.jtypes.specs.Groups.{named_in}
 use Rattle.jtypes.specs.World.{World, name_eq, first}
 use Rattle.jtypes.specs.declared.ask.Ask.TheVariants.{Class, Field, Methods}
 use Rattle.jtypes.specs.declared.signatures.FieldSig.{FieldSig}
@@ -10,19 +9,17 @@ use Rattle.jtypes.specs.declared.signatures.MethodSig.{MethodSig}
 use Rattle.class_world.specs.declared.row.ClassRow.{ClassRow}
 use Rattle.class_world.specs.declared.world.World.{World as BuiltWorld}
 
--- ---- members by name; a class without fields or without methods has no table of them
+-- ---- members by name
 
-abbrev pub field_at : {S : Type 0} → Option (IndexMap (List ℕ) FieldSig S) → List ℕ → Option FieldSig
-field_at None name = None
-field_at (Some fields) name = get name_eq fields name
+-- those of some members that bear a name, in their order
+abbrev pub of_name : {A : Type 0} → (A → List ℕ) → List ℕ → List A → List A
+of_name name n xs = filter (λ x. name_eq (name x) n) xs
 
-abbrev pub methods_at : {S : Type 0} → Option (IndexMap (List ℕ) (List MethodSig) S) → List ℕ → List MethodSig
-methods_at None name = []
-methods_at (Some methods) name = named_in methods name
+abbrev pub field_at : List FieldSig → List ℕ → Option FieldSig
+field_at fields n = first (of_name (λ f. f.name) n fields)
 
--- each name has the first field of the list that bears it
-abbrev pub HoldsFirst : {S : Type 0} → IndexMap (List ℕ) FieldSig S → List FieldSig → Type 0
-HoldsFirst by_name fields = (n : List ℕ) → get name_eq by_name n ≡ first (filter (λ f. name_eq f.name n) fields)
+abbrev pub methods_at : List MethodSig → List ℕ → List MethodSig
+methods_at methods n = of_name (λ m. m.name) n methods
 
 -- ---- rows
 

@@ -13,13 +13,15 @@
 //! decides nothing but which of two of one name counts, and what is known of a class rests on its own declaration and
 //! on the answers of the layer below alone. It is refused where memory is wanting, and nowhere else.
 //!
-//! A look-up takes one hash for the class and one for the member, in a large world as in a small one. Names and lists
-//! are shared with the skeletons, and each class has a row of its own, which worlds may share.
+//! A look-up takes one hash for the class, in a large world as in a small one, and finds a member by halves among those
+//! of the class, which stand in the order of their names. Names are shared with the skeletons, and each class has a row
+//! of its own, which worlds may share.
 //!
 //! Read `specs/Worlds.antt` first, which ends in `the_world`; what supertypes, fields and methods of a declared type
 //! are stands in `declared_types`. `Rows` says what a built world answers, and `Once` when names differ.
 #![tactic(auto)]
 
+mod by_name;
 mod firsts;
 mod layers;
 mod row;

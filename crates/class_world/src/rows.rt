@@ -30,7 +30,7 @@ fn row_in<C: Classes>(
     let mut asks = Asks::new(alloc);
     let fields = fields_of_asking(alloc, declared, c, &mut asks)?;
     let methods = methods_of_asking(alloc, implicit, declared, c, &mut asks)?;
-    let row = ClassRow::new(alloc, header.copy()?, fields, methods)?;
+    let row = ClassRow::new(header.copy()?, fields, methods)?;
     Ok(row)
 }
 

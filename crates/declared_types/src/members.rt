@@ -55,7 +55,7 @@ pub fn fields_of_asking<C: Classes>(
 {
     let cx = context_inside(alloc, d)?;
     let own = scope_of(alloc, &SharedList::empty(), &cx)?;
-    let mut fields = Vec::new(alloc);
+    let mut fields = Vec::with_capacity(alloc, d.fields.len())?;
     for f in d.fields.as_slice() {
         let field = field_in(alloc, &d.name, &own, f, c, asks)?;
         fields.push(field)?;
@@ -76,7 +76,7 @@ fn params_of<C: Classes>(
     ensures { IfOk result (λ types.
         Told (each (param_written body.now own.now) params.now) (C.world c.now) asks.old asks.new types) }
 {
-    let mut types = Vec::new(alloc);
+    let mut types = Vec::with_capacity(alloc, params.len())?;
     for param in params {
         let ty = param_written(alloc, implicit, body, own, param, c, asks)?;
         types.push(ty)?;
@@ -151,7 +151,7 @@ fn declared_methods<C: Classes>(
     ensures { IfOk result (λ ms.
         Told (each (method_of body.now) methods.now) (C.world c.now) asks.old asks.new ms.items) }
 {
-    let mut declared = Vec::new(alloc);
+    let mut declared = Vec::with_capacity(alloc, methods.len())?;
     for m in methods {
         let method = method_of(alloc, implicit, body, m, c, asks)?;
         declared.push(method)?;

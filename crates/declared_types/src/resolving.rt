@@ -8,7 +8,7 @@ use crate::written::{NamePart, WrittenParam};
 use j_names::{
     Frame, Frames, UnitContext, type_behind_asking, type_named_asking, type_or_package_asking,
 };
-use jtypes::{Asks, Classes, Symbol};
+use jtypes::{Asks, Classes, Name, Symbol};
 use rw_base::Mem;
 use std::alloc::Global;
 
@@ -22,6 +22,35 @@ pub(crate) fn as_frames(alloc: Global, params: &[WrittenParam]) -> Mem<Frames>
         frames.push(Frame::TypeParam { name })?;
     }
     Ok(frames)
+}
+
+/// A name, which shares its bytes with that of the class that it names, so that names that were put together take no
+/// memory of their own.
+fn shared_name<C: Classes>(name: Name, c: &C) -> Mem<Name>
+    ensures { IfOk result (λ n. n ≡ name) }
+{
+    match c.class(&name) {
+        Some(header) => {
+            if header.name.is(&name) {
+                return header.name.copy();
+            }
+            Ok(name)
+        }
+        None => Ok(name),
+    }
+}
+
+/// A meaning, with the bytes of the class that it names.
+fn shared<C: Classes>(meaning: Symbol, c: &C) -> Mem<Symbol>
+    ensures { IfOk result (λ s. s ≡ meaning) }
+{
+    match meaning {
+        Symbol::Kind(name) => {
+            let name = shared_name(name, c)?;
+            Ok(Symbol::Kind(name))
+        }
+        other => Ok(other),
+    }
 }
 
 /// What the last part of a name means, behind what stands in front of its first.
@@ -57,10 +86,12 @@ pub(crate) fn name_meant<C: Classes>(
         Told (name_meant cx.now frames.now part.now parts.now) (C.world c.now) asks.old asks.new s) }
 {
     if parts.is_empty() {
-        let meaning = type_named_asking(alloc, cx, frames, &part.name, c, asks)?;
+        let found = type_named_asking(alloc, cx, frames, &part.name, c, asks)?;
+        let meaning = shared(found, c)?;
         return Ok(meaning);
     }
     let scope = type_or_package_asking(alloc, cx, frames, &part.name, c, asks)?;
-    let meaning = parts_behind(alloc, cx, scope, parts, c, asks)?;
+    let last = parts_behind(alloc, cx, scope, parts, c, asks)?;
+    let meaning = shared(last, c)?;
     Ok(meaning)
 }

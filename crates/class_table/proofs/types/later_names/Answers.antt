@@ -52,8 +52,8 @@ pub returns : goal.returns
 returns c =
     let t = c.args.tree.now in
     let b = c.args.bytes.now in
-    subst (λ x. IfOk c.new.result (λ list. list ≡ x))
+    subst (λ x. IfOk c.kept.result (λ list. list ≡ x))
     (words_end names_in name_word names_take (λ n kids f. refl) refl t b c.parts-parts.result.now c.loop-at.at
     c.loop-at.out.items _ c.loop-at.invariant.same c.loop-at-test.false
     ∙ ap (λ ps. names_in (trees_of t b (drop 1 ps))) c.parts-parts.ensures.parts)
-    c.new.ensures
+    c.kept.ensures
