@@ -7,7 +7,7 @@ use Rattle.rw_base.specs.declared.tree.Part.{Part}
 use Rattle.rw_base.specs.declared.tree.Part.TheVariants as part
 use Rattle.rw_base.specs.Arena.{kind_of}
 use Rattle.rw_base.specs.Laid.{forest_of}
-use Rattle.rw_base.specs.PartLaws.{leaf_next, node_next, none_next}
+use Rattle.rw_base.specs.PartLaws.{leaf_next, node_next, none_next, below_next, leaf_below, node_below}
 use Rattle.std.specs.Prelude.{true, false}
 use Rattle.java_nodes.specs.Directly.{leaves_in, kinds_in, words_in, names_in, class_at, is_name}
 
@@ -29,7 +29,8 @@ module _ (rows : List NodeRow) (ps : List Part) (k : ℕ) (d : Part) where
   kinds_node m h e = ap kinds_in (node_next rows ps k d m h e)
 
   pub words_leaf : (leaves : List Leaf) (i : ℕ) → k < length ps → get_or ps k d ≡ part.Leaf i
-      → words_in leaves (forest_of rows (drop k ps)) ≡ class_at leaves i ∷ words_in leaves (forest_of rows (drop (k + 1) ps))
+      → words_in leaves (forest_of rows (drop k ps))
+      ≡ class_at leaves i ∷ words_in leaves (forest_of rows (drop (k + 1) ps))
   words_leaf leaves i h e = ap (words_in leaves) (leaf_next rows ps k d i h e)
 
   pub words_node : (leaves : List Leaf) (m : NodeId) → k < length ps → get_or ps k d ≡ part.Node m
@@ -66,3 +67,12 @@ words_none leaves rows ps k le = ap (words_in leaves) (none_next rows ps k le)
 pub kinds_none : (rows : List NodeRow) (ps : List Part) (k : ℕ) → length ps ≤ k
     → kinds_in (forest_of rows (drop k ps)) ≡ []
 kinds_none rows ps k le = ap kinds_in (none_next rows ps k le)
+
+-- each list, and that what stands from one part on lies in the tree
+pub ruleset of_leaves = (leaves_leaf, leaves_node, leaves_none)
+
+pub ruleset of_words = (words_leaf, words_node, words_none, below_next, leaf_below, node_below)
+
+pub ruleset of_kinds = (kinds_leaf, kinds_node, kinds_none, below_next, leaf_below, node_below)
+
+pub ruleset of_names = (names_name, names_other, names_node, names_none, below_next, leaf_below, node_below)

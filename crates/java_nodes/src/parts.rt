@@ -19,7 +19,7 @@ fn is_name(class: u16) -> bool
 }
 
 /// The first leaf that stands directly in a node.
-#[tactic(auto, using(crate::proofs::Onward::leaves_leaf, crate::proofs::Onward::leaves_node, crate::proofs::Onward::leaves_none))]
+#[tactic(auto, using(crate::proofs::Onward::of_leaves))]
 pub fn first_leaf(parts: &[Part]) -> Option<u32>
     ensures { (rows : List NodeRow) → result ≡ first_of (leaves_in (forest_of rows parts.now)) }
 {
@@ -32,7 +32,7 @@ pub fn first_leaf(parts: &[Part]) -> Option<u32>
 }
 
 /// The class of the first leaf that stands directly in a node.
-#[tactic(auto, using(crate::proofs::Onward::words_leaf, crate::proofs::Onward::words_node, crate::proofs::Onward::words_none, rw_base::specs::PartLaws::below_next, rw_base::specs::PartLaws::leaf_below, rw_base::specs::PartLaws::node_below))]
+#[tactic(auto, using(crate::proofs::Onward::of_words))]
 pub fn first_word(tree: &Tree, parts: &[Part]) -> Option<u16>
     requires { AreBelow (length tree.now.leaves) (length tree.now.nodes) parts.now }
     ensures { result ≡ first_of (words_in tree.now.leaves (forest_of tree.now.nodes parts.now)) }
@@ -47,7 +47,7 @@ pub fn first_word(tree: &Tree, parts: &[Part]) -> Option<u16>
 }
 
 /// How many nodes of a kind stand directly in a node.
-#[tactic(auto, using(crate::proofs::Onward::kinds_leaf, crate::proofs::Onward::kinds_node, crate::proofs::Onward::kinds_none, rw_base::specs::PartLaws::below_next, rw_base::specs::PartLaws::leaf_below, rw_base::specs::PartLaws::node_below))]
+#[tactic(auto, using(crate::proofs::Onward::of_kinds))]
 pub fn count_of(tree: &Tree, parts: &[Part], kind: u16) -> usize
     requires { AreBelow (length tree.now.leaves) (length tree.now.nodes) parts.now }
     ensures { result ≡ count_of kind (kinds_in (forest_of tree.now.nodes parts.now)) }
@@ -67,7 +67,7 @@ pub fn count_of(tree: &Tree, parts: &[Part], kind: u16) -> usize
 }
 
 /// The names that stand directly in a node.
-#[tactic(auto, using(crate::proofs::Onward::names_name, crate::proofs::Onward::names_other, crate::proofs::Onward::names_node, crate::proofs::Onward::names_none, rw_base::specs::PartLaws::below_next, rw_base::specs::PartLaws::leaf_below, rw_base::specs::PartLaws::node_below,))]
+#[tactic(auto, using(crate::proofs::Onward::of_names))]
 pub fn names(alloc: Global, tree: &Tree, parts: &[Part]) -> Mem<Items<u32>>
     requires { AreBelow (length tree.now.leaves) (length tree.now.nodes) parts.now }
     ensures { IfOk result (λ names. names ≡ names_in tree.now.leaves (forest_of tree.now.nodes parts.now)) }
@@ -87,7 +87,7 @@ pub fn names(alloc: Global, tree: &Tree, parts: &[Part]) -> Mem<Items<u32>>
 }
 
 /// The first name that stands directly in a node.
-#[tactic(auto, using(crate::proofs::Onward::names_name, crate::proofs::Onward::names_other, crate::proofs::Onward::names_node, crate::proofs::Onward::names_none, rw_base::specs::PartLaws::below_next, rw_base::specs::PartLaws::leaf_below, rw_base::specs::PartLaws::node_below,))]
+#[tactic(auto, using(crate::proofs::Onward::of_names))]
 pub fn first_name(tree: &Tree, parts: &[Part]) -> Option<u32>
     requires { AreBelow (length tree.now.leaves) (length tree.now.nodes) parts.now }
     ensures { result ≡ first_of (names_in tree.now.leaves (forest_of tree.now.nodes parts.now)) }
@@ -106,7 +106,7 @@ pub fn first_name(tree: &Tree, parts: &[Part]) -> Option<u32>
 }
 
 /// Whether a leaf of a class stands directly in a node.
-#[tactic(auto, using(crate::proofs::Onward::words_leaf, crate::proofs::Onward::words_node, crate::proofs::Onward::words_none, rw_base::specs::PartLaws::below_next, rw_base::specs::PartLaws::leaf_below, rw_base::specs::PartLaws::node_below,))]
+#[tactic(auto, using(crate::proofs::Onward::of_words))]
 pub fn has_word(tree: &Tree, parts: &[Part], class: u16) -> bool
     requires { AreBelow (length tree.now.leaves) (length tree.now.nodes) parts.now }
     ensures { result ≡ has_word class tree.now.leaves (forest_of tree.now.nodes parts.now) }
@@ -125,7 +125,7 @@ pub fn has_word(tree: &Tree, parts: &[Part], class: u16) -> bool
 }
 
 /// The classes of the leaves that stand directly in a node.
-#[tactic(auto, using(crate::proofs::Onward::words_leaf, crate::proofs::Onward::words_node, crate::proofs::Onward::words_none, rw_base::specs::PartLaws::below_next, rw_base::specs::PartLaws::leaf_below, rw_base::specs::PartLaws::node_below,))]
+#[tactic(auto, using(crate::proofs::Onward::of_words))]
 pub fn words(alloc: Global, tree: &Tree, parts: &[Part]) -> Mem<Items<u16>>
     requires { AreBelow (length tree.now.leaves) (length tree.now.nodes) parts.now }
     ensures { IfOk result (λ words. words ≡ words_in tree.now.leaves (forest_of tree.now.nodes parts.now)) }
