@@ -1,4 +1,3 @@
 pub mod Declarations
 pub mod Elements
 pub mod Cases
-pub mod Alike

@@ -2,7 +2,7 @@
 ghost use Rattle.std.specs.Prelude.{List, Option, ℕ};
 ghost use Rattle.jtypes.specs.declared.types.JType.{JType};
 ghost use Rattle.j_names.specs.declared.context.UnitContext.{UnitContext};
-ghost use Rattle.declared_names.specs.Alike.{IsDecidedByAnswers};
+ghost use Rattle.judging.specs.Alike.{IsDecidedByAnswers};
 ghost use Rattle.declared_names.specs.Cases.{case_name};
 ghost use Rattle.declared_names.specs.Declarations.{declared_field, declared_constant, declared_method};
 ghost use Rattle.declared_names.specs.Declarations.{declared_constructor};

@@ -19,7 +19,7 @@
 //!
 //! In a world that answers alike what was asked, the same is noted (`equal_answers_give_equal_declared_names`).
 //!
-//! Read `specs/Declarations.antt` first, then `Elements` and `Cases`; `Alike` is the word of the law.
+//! Read `specs/Declarations.antt` first, then `Elements` and `Cases`.
 #![tactic(auto)]
 
 mod cases;

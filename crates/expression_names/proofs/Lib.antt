@@ -1,3 +1,2 @@
-mod Decided
 mod Inward
 mod Looked

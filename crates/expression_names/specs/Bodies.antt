@@ -1,6 +1,6 @@
 -- The class around a place, `this` and `super` (JLS 8.8.7.1, 15.8.3, 15.8.4, 15.11.2).
-use Rattle.std.specs.Prelude.{ℕ, List, [], ◌∷◌, Option, None, Some, Bool, true, false, ◌&&◌, not, if◌then◌else◌}
-use Rattle.dialogue.specs.Dialogue.{done, bind}
+use Rattle.std.specs.Prelude.{ℕ, List, [], ◌∷◌, Option, None, Some, Bool, true, false, not, if◌then◌else◌}
+use Rattle.dialogue.specs.Dialogue.{done}
 use Rattle.jtypes.specs.World.{Rule}
 use Rattle.jtypes.specs.declared.types.JType.{JType}
 use Rattle.jtypes.specs.declared.types.JType.TheVariants.{Unknown, Class as ClassType}

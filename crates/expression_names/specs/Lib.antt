@@ -1,4 +1,3 @@
-pub mod Alike
 pub mod Bodies
 pub mod Calls
 pub mod Primaries

@@ -39,6 +39,7 @@ fn chosen_of<C: Classes>(
 }
 
 /// The method that arguments choose among those of a name, without the hidden ones.
+#[tactic(auto, unfolding(crate::specs::Calls::chosen))]
 pub(crate) fn chosen<C: Classes>(
     alloc: Global,
     methods: &[MethodSig],

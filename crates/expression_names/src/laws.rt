@@ -3,7 +3,7 @@ ghost use Rattle.std.specs.Prelude.{List, Option, ℕ};
 ghost use Rattle.j_overload.specs.declared.argument.ArgType.{ArgType};
 ghost use Rattle.j_names.specs.declared.context.Frame.{Frame};
 ghost use Rattle.j_names.specs.declared.context.UnitContext.{UnitContext};
-ghost use Rattle.expression_names.specs.Alike.{IsDecidedByAnswers};
+ghost use Rattle.judging.specs.Alike.{IsDecidedByAnswers};
 ghost use Rattle.expression_names.specs.Bodies.{super_type, qualified_super, this_call, super_call};
 ghost use Rattle.expression_names.specs.Calls.{call, call_behind, constructing};
 ghost use Rattle.expression_names.specs.Primaries.{simple_name, name_behind};

@@ -24,7 +24,7 @@
 //! to one of its questions has changed.
 //!
 //! Read `specs/Primaries.antt` first (names), then `Calls` (methods and constructors), then `Bodies` (the class around a
-//! place, `this` and `super`). `Alike` has the words of the law. The rules of names that they cite are those of j_names.
+//! place, `this` and `super`). The rules of names that they cite are those of j_names.
 #![tactic(auto)]
 
 mod bodies;

@@ -1,11 +1,13 @@
 -- How one judgement follows another: what proofs above cite.
 use Rattle.std.proofs.Common.{◌≡◌, List, [], ◌++◌, sym, ◌∙◌, ap, append-nil, append_assoc}
 use Rattle.dialogue.specs.Dialogue.{bind, done}
+use Rattle.dialogue.specs.DialogueLaws.{run_alike, asked_alike}
 use Rattle.dialogue.specs.Told.{Told}
 use Rattle.dialogue.specs.ToldLaws.{told_done, told_bind}
 use Rattle.jtypes.specs.World.{World, Rule}
 use Rattle.judging.specs.declared.log.Log.{Log}
 use Rattle.judging.specs.declared.log.Note.{Note}
+use Rattle.judging.specs.Alike.{IsDecidedByAnswers}
 use Rattle.judging.specs.Judging.{Judging, give, noting, and_then, looking, Judged}
 
 pub judged_give : {A : Type 0} (w : World) (l : Log) (a : A) → Judged (give a) w l l a
@@ -36,3 +38,7 @@ judged_looking d f w l m n x y h e k = record {
   told = told_bind d f w l.asks m.asks n.asks x (record { value = y; notes = k.noted }) h k.told;
   notes = k.notes ∙ ap (λ ns. ns ++ k.noted) e;
 }
+
+-- every judgement rests on the answers to its questions
+pub decided : {A : Type 0} (d : Judging A) → IsDecidedByAnswers d
+decided d = record { gives = run_alike d; asks = asked_alike d }

@@ -1,3 +1,4 @@
 pub mod Source
 pub mod Judging
+pub mod Alike
 pub mod JudgingLaws

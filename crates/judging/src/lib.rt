@@ -14,8 +14,9 @@
 //! the judgement has in the world, puts its notes behind those of the log, and puts its questions to the set of the log,
 //! no more and no less. `Log::note` puts one note at the end, and nothing else changes.
 //!
-//! Read `specs/Judging.antt` (what a judgement is, and `Judged`) and `Source` (the text of a leaf). `JudgingLaws` has
-//! lemmas for proofs above: how one `Judged` follows another.
+//! Read `specs/Judging.antt` (what a judgement is, and `Judged`), `Source` (the text of a leaf), and `Alike` (what crates
+//! above say of their judgements in worlds that answer alike). `JudgingLaws` has lemmas for proofs above: how one `Judged`
+//! follows another, and that every judgement rests on the answers to its questions.
 #![tactic(auto)]
 
 mod log;

@@ -1,7 +1,7 @@
 use Rattle.declared_names.specs.Cases.{case_name}
 use Rattle.declared_names.specs.Declarations.{declared_field, declared_constant, declared_method, declared_constructor}
 use Rattle.declared_names.specs.Elements.{element}
-use Rattle.declared_names.proofs.Decided.{decided}
+use Rattle.judging.specs.JudgingLaws.{decided}
 use Rattle.declared_names.proofs.laws.equal_answers_give_equal_declared_names.Goals as goal
 
 pub returns-clause-field : goal.returns-clause-field

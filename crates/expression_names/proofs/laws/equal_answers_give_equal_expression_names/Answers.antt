@@ -1,7 +1,7 @@
 use Rattle.expression_names.specs.Bodies.{super_type, qualified_super, this_call, super_call}
 use Rattle.expression_names.specs.Calls.{call, call_behind, constructing}
 use Rattle.expression_names.specs.Primaries.{simple_name, name_behind}
-use Rattle.expression_names.proofs.Decided.{decided}
+use Rattle.judging.specs.JudgingLaws.{decided}
 use Rattle.expression_names.proofs.laws.equal_answers_give_equal_expression_names.Goals as goal
 
 pub returns-clause-simple_name : goal.returns-clause-simple_name
