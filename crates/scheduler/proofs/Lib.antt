@@ -14,3 +14,5 @@ pub mod Standing
 pub mod Spared
 pub mod Untouched
 pub mod Altered
+pub mod Fitting
+pub mod Touching

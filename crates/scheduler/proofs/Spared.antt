@@ -1,6 +1,6 @@
 -- A path that a step spares.
 use Rattle.std.proofs.Common.{◌≡◌, ℕ, ◌+◌, ◌<◌, Bool, ◌||◌, ◌&&◌, true, false, List, [], ◌∷◌, ◌++◌, length, drop}
-use Rattle.std.proofs.Common.{get_or, refl, sym, ap, ◌∙◌, inl, inr, arith}
+use Rattle.std.proofs.Common.{get_or, refl, sym, ap, subst, ◌∙◌, inl, inr, arith}
 use Rattle.std.specs.Prelude.{if◌then◌else◌}
 use Rattle.std.proofs.lemmas.Bool.{both_ways, cases_Bool}
 use Rattle.std.proofs.lemmas.List.{length-drop}
@@ -26,12 +26,18 @@ use Rattle.scheduler.proofs.Standing.{elsewhere, behind, put_elsewhere, other_pa
 
 -- ---- fates that spare a path
 
--- a file at the path stays
-abbrev StaysAt : List ℕ → KeptFile → Fate → Type 0
-StaysAt path f d = bytes_eq f.path path ≡ true → d ≡ Stays
+-- a file with this fate is left as it is
+abbrev pub IsStill : Fate → Type 0
+IsStill Goes = ⊥
+IsStill (Becomes g) = ⊥
+IsStill d = Unit {0}
+
+-- a file at the path is
+abbrev pub StaysAt : List ℕ → KeptFile → Fate → Type 0
+StaysAt path f d = bytes_eq f.path path ≡ true → IsStill d
 
 -- none goes there from elsewhere
-abbrev GoesNotTo : List ℕ → KeptFile → Fate → Type 0
+abbrev pub GoesNotTo : List ℕ → KeptFile → Fate → Type 0
 GoesNotTo path f (Becomes g) = bytes_eq g.path f.path ≡ false → bytes_eq g.path path ≡ false
 GoesNotTo path f d = Unit {0}
 
@@ -40,13 +46,13 @@ AreStaying path [] ds = Unit {0}
 AreStaying path (f ∷ fs) [] = ⊥
 AreStaying path (f ∷ fs) (d ∷ ds) = StaysAt path f d × AreStaying path fs ds
 
-abbrev AreSparing : List ℕ → State → List Fate → Type 0
+abbrev pub AreSparing : List ℕ → State → List Fate → Type 0
 AreSparing path [] ds = Unit {0}
 AreSparing path (f ∷ fs) [] = ⊥
 AreSparing path (f ∷ fs) (d ∷ ds) = StaysAt path f d × (GoesNotTo path f d × AreSparing path fs ds)
 
 module _ (path : List ℕ) where
-  not_here : (f : KeptFile) (d : Fate) → StaysAt path f d → (d ≡ Stays → ⊥) → bytes_eq f.path path ≡ false
+  not_here : (f : KeptFile) (d : Fate) → StaysAt path f d → (IsStill d → ⊥) → bytes_eq f.path path ≡ false
   not_here f d s goes = elim (cases_Bool (bytes_eq f.path path)) [ inl e ↦ absurd (goes (s e)) | inr e ↦ e ]
 
   -- ---- what is left at its path, and what goes elsewhere
@@ -64,10 +70,10 @@ module _ (path : List ℕ) where
   left_at_same : (f : KeptFile) (d : Fate) (rest fs : State) → StaysAt path f d → at_path path rest ≡ at_path path fs
       → at_path path (left_at f d ++ rest) ≡ at_path path (f ∷ fs)
   left_at_same f Stays rest fs s m = behind path f rest fs m
-  left_at_same f Goes rest fs s m = m ∙ sym (elsewhere path f fs (not_here f Goes s (λ e. absurd (cc))))
+  left_at_same f Goes rest fs s m = m ∙ sym (elsewhere path f fs (not_here f Goes s (λ still. still)))
   left_at_same f (Lost r) rest fs s m = behind path f rest fs m
   left_at_same f Taken rest fs s m = behind path f rest fs m
-  left_at_same f (Becomes g) rest fs s m = becomes_left f g rest fs (not_here f (Becomes g) s (λ e. absurd (cc))) m
+  left_at_same f (Becomes g) rest fs s m = becomes_left f g rest fs (not_here f (Becomes g) s (λ still. still)) m
 
   left_same : (fs : State) (ds : List Fate) → AreSparing path fs ds → at_path path (left fs ds) ≡ at_path path fs
   unfolding beside
@@ -102,7 +108,7 @@ module _ (path : List ℕ) where
   puts_elsewhere [] fs a = refl
   puts_elsewhere (g ∷ gs) fs a = puts_elsewhere gs (put_file g fs) a.1 ∙ put_elsewhere path g fs a.0
 
-  next_same : (fs : State) (ds : List Fate) → AreSparing path fs ds → at_path path (next fs ds) ≡ at_path path fs
+  pub next_same : (fs : State) (ds : List Fate) → AreSparing path fs ds → at_path path (next fs ds) ≡ at_path path fs
   unfolding next
   next_same fs ds s = puts_elsewhere (moved fs ds) (left fs ds) (moved_elsewhere fs ds s) ∙ left_same fs ds s
 
@@ -129,7 +135,7 @@ module _ (path : List ℕ) where
               (λ b. (has_path stood g.path || is_among g.path taken) ≡ b
               → AreSparing path (f ∷ fs) (if b then Taken ∷ settled stood taken fs ds else Becomes g ∷ settled stood
               (taken ++ g.path ∷ []) fs ds)) [
-                | true ↦ λ e. ((λ here. let is : Becomes g ≡ Stays = s here in cc), (tt, all taken))
+                | true ↦ λ e. ((λ here. tt), (tt, all taken))
                 | false ↦ λ e. (
                   s,
                   (
@@ -185,8 +191,8 @@ module _ (read : Reads) (plan : Plan) (leaf : PlannedLeaf) (value : List (List �
   module _ (path : List ℕ) (spares : StepSpares plan leaf value files path) where
     first_stays : (n : ℕ) (f : KeptFile) → n < length files → file_at files n ≡ f
         → StaysAt path f (fate_at read plan leaf value files n)
-    first_stays n f lt is here = fate_stays n
-        (spares n lt (ap (λ (g : KeptFile). g.path) is ∙ (bytes_eq-Decides f.path path).0 here))
+    first_stays n f lt is here = subst IsStill (sym (fate_stays n
+        (spares n lt (ap (λ (g : KeptFile). g.path) is ∙ (bytes_eq-Decides f.path path).0 here)))) tt
 
     fates_staying : (n : ℕ) (fs : State) → drop n files ≡ fs
         → AreStaying path fs (fates_from read plan leaf value files n fs)

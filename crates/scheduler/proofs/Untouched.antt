@@ -79,7 +79,7 @@ module _ (path : List ℕ) where
       with_files_same read ss (with_file read s stage)
       (still_there path stage.state (with_file read s stage).state e t) ∙ e
 
-  generation_same : (read : Reads) (leaf : PlannedLeaf) (value : List (List ℕ)) (files : State)
+  pub generation_same : (read : Reads) (leaf : PlannedLeaf) (value : List (List ℕ)) (files : State)
       → has_path files path ≡ true → at_path path (generation read leaf value files).state ≡ at_path path files
   unfolding generation
   generation_same read leaf value files t =

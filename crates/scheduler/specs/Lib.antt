@@ -5,3 +5,4 @@ pub mod Steps
 pub mod Runs
 pub mod Came
 pub mod Untouched
+pub mod Touched

@@ -13,6 +13,7 @@ ghost use Rattle.recipe_yaml.specs.declared.plans.Plan.{Plan};
 ghost use Rattle.recipe_yaml.specs.declared.plans.PlannedLeaf.{PlannedLeaf};
 ghost use Rattle.scheduler.specs.Runs.{end, reached, run};
 ghost use Rattle.scheduler.specs.Steps.{stepped};
+ghost use Rattle.scheduler.specs.Touched.{IsTouched, StepTouches};
 ghost use Rattle.scheduler.specs.Untouched.{IsEdited, IsUntouched, StepSpares, at_path};
 ghost use Rattle.scheduler.specs.declared.event.Event.{Event};
 
@@ -53,3 +54,14 @@ pub fn an_edited_file_keeps_its_gaps()
 {
     gaps_stay();
 }
+
+/// Behind a step and behind a run a path has the same file as before, with its bytes, or it is touched: a step removes
+/// the file there, or edits it in ranges of the tree that it reads as then, or a file is made where none stood.
+pub fn a_path_is_the_same_or_touched()
+    ensures step { (read : Reads) (plan : Plan) (leaf : PlannedLeaf) (value : List (List ℕ)) (files : State)
+        (path : List ℕ) → (at_path path (stepped read plan leaf value files) ≡ at_path path files)
+        ⊎ StepTouches read plan leaf value files path }
+    ensures run { (read : Reads) (plan : Plan) (cycles : ℕ) (files last : State) (events : List Event)
+        (path : List ℕ) → reached files [] (run read plan cycles files).stages ≡ end last events
+        → (at_path path last ≡ at_path path files) ⊎ IsTouched read plan cycles files path }
+{}

@@ -12,11 +12,13 @@
 //!
 //! The laws: a file that no step alters stays the same, with its bytes (`an_untouched_file_stays`); each file behind a
 //! step is one before it, or what the leaf's edits make of one before it (`an_altered_file_is_edited`); and outside the
-//! edited ranges its bytes stay (`an_edited_file_keeps_its_gaps`).
+//! edited ranges its bytes stay (`an_edited_file_keeps_its_gaps`). All of this in one: behind a run a path has the same
+//! file, or a step removes it or edits it in ranges of its tree, or makes one where none stood
+//! (`a_path_is_the_same_or_touched`).
 //!
 //! The definitions in specs/: `Edits` (what each leaf recipe does), `Holds` (preconditions), `Fates` and `Steps` (an
-//! edit step), `Runs` (cycles, runs, and what is reached). `Came` says what a part of a run came to, and
-//! `Untouched` when a run leaves a path alone.
+//! edit step), `Runs` (cycles, runs, and what is reached). `Came` says what a part of a run came to, `Untouched` when
+//! a run leaves a path alone, and `Touched` what its steps do at a path.
 #![tactic(auto)]
 
 mod cycling;
@@ -36,6 +38,9 @@ mod stepping;
 
 pub use event::{DropCause, Event};
 pub use fault::{MOST_HELD, RunFault};
-pub use laws::{an_altered_file_is_edited, an_edited_file_keeps_its_gaps, an_untouched_file_stays};
+pub use laws::{
+    a_path_is_the_same_or_touched, an_altered_file_is_edited, an_edited_file_keeps_its_gaps,
+    an_untouched_file_stays,
+};
 pub use running::{Outcome, run_plan};
 pub use stepping::{StepReport, step};
