@@ -14,3 +14,4 @@ pub mod ReportSteps
 pub mod Weaving
 pub mod Answering
 pub mod Performing
+pub mod LeftAlone

@@ -319,7 +319,7 @@ unfolding IsStrictlySortedBy
 keys_in_order [] sorted = tt
 keys_in_order (e ∷ es) sorted = (all_below e.0 es (and_parts _ _ sorted).0, keys_in_order es (and_parts _ _ sorted).1)
 
-keys_rise : (files : Files) → IsInOrder (map.keys files)
+pub keys_rise : (files : Files) → IsInOrder (map.keys files)
 keys_rise files = keys_in_order (map.entries files) (is_true _ (map.entries_sorted files))
 
 -- the files and the stubs of a repository

@@ -8,6 +8,7 @@ pub mod Opening
 pub mod Running
 pub mod Changes
 pub mod Checking
+pub mod Untouched
 pub mod Report
 pub mod Answers
 pub mod Statuses

@@ -5,12 +5,15 @@ ghost use Rattle.rw_host.specs.Crash.{Leaves, Only};
 ghost use Rattle.rw_host.specs.Files.{Rose};
 ghost use Rattle.rw_host.specs.Sink.{PutsPrefix};
 ghost use Rattle.command_words.specs.Asking.{asked_told, command_told};
-ghost use Rattle.command_words.specs.Words.{Command as AnyCommand, apply, check, command_of, dry, history, recover};
+ghost use Rattle.command_words.specs.Words.{Asked as AnyAsked, Command as AnyCommand, apply, check, command_of, dry};
+ghost use Rattle.command_words.specs.Words.{history, recover};
 ghost use Rattle.rewrite_cli.specs.Answers.{IsPut, answer, fault_line, is_writing};
+ghost use Rattle.rewrite_cli.specs.Journals.{recovered};
 ghost use Rattle.rewrite_cli.specs.Meanings.{AreMeanings, Meanings};
 ghost use Rattle.rewrite_cli.specs.Moments.{EachStands, Idle, IsOldOrNew};
 ghost use Rattle.rewrite_cli.specs.Statuses.{IsAnswered, IsAsBefore, IsHalted, IsStatus, NamesNoFault};
 ghost use Rattle.rewrite_cli.specs.Statuses.{status_of, text_of};
+ghost use Rattle.rewrite_cli.specs.Untouched.{RunLeavesTheUntouched};
 
 use crate::checking::check_repository;
 use crate::histories::tell_history;
@@ -167,6 +170,7 @@ fn perform<S: Store>(alloc: Global, store: &mut S, command: Command) -> Result<D
     ensures unchanged { IsTrue S.tells_files → (meanings : Meanings) → AreMeanings meanings →
         IfErr result (λ stop. stop ≢ Stop.WriteFault →
         IsAsBefore (meanings.journal (S.files store.old)) (S.files store.old) (S.files store.new)) }
+    ensures unwritten { is_writing (command_told command.entry) ≡ false → S.files store.new ≡ S.files store.old }
 {
     match command {
         Command::Apply(asked) => run(alloc, store, asked),
@@ -251,6 +255,18 @@ pub fn rewrite<S: Store, K: Sink, G: Gate>(
     // At 3, 4, 6, 8 and 9 the files are what they were, or what a recovery made of them.
     ensures unchanged { IsTrue S.tells_files → (meanings : Meanings) → AreMeanings meanings → IsHalted result →
         IsAsBefore (meanings.journal (S.files store.old)) (S.files store.old) (S.files store.new) }
+
+    // After `run` each path but those of gate, journal and history has the bytes that it had in the repository for which
+    // the store stood, or a step of the run removes the file there, edits it in ranges of the tree that it reads as
+    // then, or makes one where none stood.
+    ensures untouched { IsTrue S.tells_files → (meanings : Meanings) → AreMeanings meanings → (asked : AnyAsked) →
+        command_of (map_list string_bytes words.now) ≡ Some (apply asked) → NamesNoFault result ⊎ result ≡ 7 →
+        RunLeavesTheUntouched meanings asked (recovered (meanings.journal (S.files store.old)) (S.files store.old))
+        (S.files store.new) }
+
+    // `dry`, `check` and `history` change no file, whatever the status.
+    ensures unwritten { (command : AnyCommand) → command_of (map_list string_bytes words.now) ≡ Some command →
+        is_writing command ≡ false → S.files store.new ≡ S.files store.old }
 
     // Where each image of the start stands for a repository, each image at any moment stands for such a one, or for the
     // same as the files that the answer leaves: all of the old or all of the new, wherever the program is stopped.

@@ -1,12 +1,16 @@
-use Rattle.std.proofs.Common.{◌≡◌, true, false, ◌≤◌, ◌++◌, ◌∙◌, ap, subst, inl, map as map_list, string_bytes}
+use Rattle.std.proofs.Common.{◌≡◌, true, false, ◌≤◌, ◌++◌, ◌∙◌, ap, subst, sym, inl, map as map_list, string_bytes}
 use Rattle.rw_host.specs.Files.{Rose}
 use Rattle.rw_host.specs.Sink.{PutsPrefix}
 use Rattle.rewrite_cli.specs.Answers.{IsPut, answer, is_writing}
 use Rattle.command_words.specs.Asking.{command_told}
+use Rattle.command_words.specs.Words.{apply}
 use Rattle.rw_host.specs.Crash.{Leaves, Only}
+use Rattle.rewrite_cli.specs.Journals.{recovered}
 use Rattle.rewrite_cli.specs.Moments.{IsOldOrNew}
 use Rattle.rewrite_cli.specs.Statuses.{IsAsBefore}
+use Rattle.rewrite_cli.specs.Untouched.{RunLeavesTheUntouched}
 use Rattle.rewrite_cli.proofs.Answering.{done_ok, halted, on_ok, not_seven, answer_status, answer_text, answer_left, done_status, cut_text}
+use Rattle.rewrite_cli.proofs.LeftAlone.{left_alone}
 use Rattle.rewrite_cli.proofs.Performing.{of_command}
 use Rattle.rewrite_cli.proofs.rewrite.rewrite.Goals as goal
 
@@ -63,3 +67,17 @@ returns-in-Some-clause-synced g c = λ command e w n.
     of_command (map_list string_bytes c.args.words.now) (command_told c.in-Some.command) c.in-Some.ensures (λ k. is_writing k ≡ true → g.S.Store.is_unsynced c.perform.new.store ≡ false)
     (λ v. on_ok (g.S.Store.is_unsynced c.perform.new.store ≡ false) c.perform.result
     (done_ok c.perform.result c.tell.result c.tell.ensures.status c.tell.ensures.cut n) (c.perform.ensures.synced v)) command e w
+
+pub returns-in-Some-clause-untouched : goal.returns-in-Some-clause-untouched
+returns-in-Some-clause-untouched g c = λ told meanings are asked e n.
+    let before = g.S.Store.files c.args.store.now in
+    let after = g.S.Store.files c.perform.new.store in
+    let left : after ≡ (answer meanings before (apply asked)).left =
+    of_command (map_list string_bytes c.args.words.now) (command_told c.in-Some.command) c.in-Some.ensures (λ k. after ≡ (answer meanings before k).left)
+    (answer_left _ _ c.perform.result c.tell.result (c.perform.ensures.answer told meanings are) c.tell.ensures.status c.tell.ensures.cut n) (apply asked) e in
+    subst (RunLeavesTheUntouched meanings asked (recovered (meanings.journal before) before)) (sym left) (left_alone meanings asked before)
+
+pub returns-in-Some-clause-unwritten : goal.returns-in-Some-clause-unwritten
+returns-in-Some-clause-unwritten g c = λ command e w.
+    of_command (map_list string_bytes c.args.words.now) (command_told c.in-Some.command) c.in-Some.ensures (λ k. is_writing k ≡ false → g.S.Store.files c.perform.new.store ≡ g.S.Store.files c.args.store.now)
+    c.perform.ensures.unwritten command e w
