@@ -7,8 +7,8 @@ use jtypes::{JType, Name};
 use rw_base::Mem;
 use std::alloc::Global;
 
-/// The classes that expressions have by themselves, whose names are made once for a file or a worker. All types that are
-/// made from them share these.
+/// The classes that expressions have by themselves, whose names are made once for a file or a worker. All types that
+/// are made from them share these.
 #[derive(Drop)]
 pub struct CommonTypes {
     string: Name,

@@ -9,10 +9,10 @@
 //! ```
 //!
 //! The promise: `literal_type`, `unary_type`, `binary_type`, `chain_type`, `element_of` and `with_dims` give the type
-//! that the row of the same name in `specs/` says. `conditional_type_asking` gives what the rule `conditional` gives and
-//! puts exactly its questions to the set (clause `told`); in a world that answers these alike, the type and its questions
-//! are the same (`equal_answers_give_equal_conditionals`). Where the Java Language Specification refuses an operand and
-//! no row gives a type, it is Unknown; an operator whose result is always boolean is boolean all the same.
+//! that the row of the same name in `specs/` says. `conditional_type_asking` gives what the rule `conditional` gives
+//! and puts exactly its questions to the set (clause `told`); in a world that answers these alike, the type and its
+//! questions are the same (`equal_answers_give_equal_conditionals`). Where the Java Language Specification refuses an
+//! operand and no row gives a type, it is Unknown; an operator whose result is always boolean is boolean all the same.
 //!
 //! A copy of a type takes no memory, and `CommonTypes` keeps the names that the rows make.
 //!

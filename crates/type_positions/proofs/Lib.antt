@@ -1,0 +1,3 @@
+pub mod NameSteps
+pub mod ImportSteps
+pub mod WrittenSteps
