@@ -1,5 +1,5 @@
 //! Worked examples of Java's types: which fits where, copies and names, the questions that a rule puts to a world of
-//! classes, and the choice of an overloaded method. The program reads cases and writes each with its answer, and the
+//! classes, the types of expressions, and the choice of an overloaded method. The program reads cases and writes each with its answer, and the
 //! file `stdout` holds what it must write (see `examples_base`).
 //!
 //! `types` reads and writes types, `world` reads worlds of classes, and `large` makes calls with large inputs. What is
@@ -8,6 +8,7 @@
 
 mod choices;
 mod copies;
+mod expressions;
 mod fits;
 mod large;
 mod questions;
@@ -28,6 +29,7 @@ fn put_world_answer(alloc: Global, world: &ListWorld, heading: &str, case: &str,
         "fits asking" => fits::put_fits_asking(alloc, world, case, out),
         "primitive types and boxes" => fits::put_fits(alloc, world, case, out),
         "copies of declarations" => copies::put_copies(alloc, world, case, out),
+        "conditional expressions" => expressions::put_conditional(alloc, world, case, out),
         "question sets" => questions::put_answers(alloc, world, case, out),
         "choices" => choices::put_chosen(alloc, world, case, out),
         "choices asking" => choices::put_asking(alloc, world, case, out),
@@ -40,6 +42,11 @@ fn put_answer(alloc: Global, lines: &Lines, case: &str, out: &mut Answer) {
     match lines.heading() {
         "promotion" => fits::put_promotions(alloc, case, out),
         "boxes" => fits::put_boxes(alloc, case, out),
+        "literals" => expressions::put_literal(alloc, case, out),
+        "operators before an operand" => expressions::put_unary(alloc, case, out),
+        "chains of operators" => expressions::put_chain(alloc, case, out),
+        "elements of arrays" => expressions::put_element(alloc, case, out),
+        "dimensions" => expressions::put_with_dims(alloc, case, out),
         "names" => copies::put_kept(alloc, case, out),
         "copies" => copies::put_copy(alloc, case, out),
         "large" => large::put_answer(alloc, case, out),
