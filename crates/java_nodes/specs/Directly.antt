@@ -4,7 +4,7 @@ use Rattle.std.specs.List.{list_any}
 use Rattle.rw_base.specs.declared.tree.Leaf.{Leaf}
 use Rattle.rw_base.specs.Arena.{leaf_at}
 use Rattle.rw_base.specs.Trees.{none, leaf, node, Numbered}
-use Rattle.java_lex.specs.declared.class.TheConstants.{ID, LAMBDA, LABEL}
+use Rattle.java_lex.specs.declared.class.TheConstants.{ID, LAMBDA, LABEL, TREF, DECL}
 
 -- the numbers of its leaves, in order
 abbrev pub leaves_in : Numbered → List ℕ
@@ -26,9 +26,10 @@ first_of (x ∷ xs) = Some x
 abbrev pub class_at : List Leaf → ℕ → ℕ
 class_at leaves i = (leaf_at leaves i).class
 
--- a leaf is a name where it is an identifier, also one that is a lambda's parameter or a label
+-- a leaf is a name where it is an identifier (JLS 3.8), also one that is a lambda's parameter or a label, or that
+-- begins a type
 abbrev pub is_name : ℕ → Bool
-is_name class = class == ID || class == LAMBDA || class == LABEL
+is_name class = class == ID || class == LAMBDA || class == LABEL || class == TREF || class == DECL
 
 -- the names directly in a node
 abbrev pub names_in : List Leaf → Numbered → List ℕ

@@ -9,7 +9,7 @@
 //!
 //! The promise: each call gives what the definition of the same name gives of the node's trees, over any parts that lie
 //! in the tree. Nothing below a part is looked at, and none but `names` and `words` takes memory. A name is an
-//! identifier, also where its class is that of a lambda's parameter or of a label.
+//! identifier, also where its class is that of a lambda's parameter, of a label, or of what begins a type.
 //!
 //! Read `specs/Directly.antt`, half a page.
 #![tactic(auto)]

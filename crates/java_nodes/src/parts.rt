@@ -11,11 +11,15 @@ use rw_base::{Mem, Part, Tree};
 use sqlite_items::Items;
 use std::alloc::Global;
 
-/// Whether a leaf of a class is a name: an identifier, also one that is a lambda's parameter or a label.
+/// Whether a leaf of a class is a name: an identifier, also one that is a lambda's parameter or a label, or that begins
+/// a type.
 fn is_name(class: u16) -> bool
     ensures { result ≡ is_name class }
 {
-    class == class::ID || class == class::LAMBDA || class == class::LABEL
+    matches!(
+        class,
+        class::ID | class::LAMBDA | class::LABEL | class::TREF | class::DECL
+    )
 }
 
 /// The first leaf that stands directly in a node.
