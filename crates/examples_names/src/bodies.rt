@@ -1,5 +1,4 @@
-// The bodies of local and anonymous classes, as people write them: `L extends p.S field f int method m`. An anonymous
-// class has no name in front.
+// The bodies of local and anonymous classes, as people write them: `extends p.S field f int method m`.
 use crate::types::{name_in, type_in};
 use examples_base::Answer;
 use j_names::{Frame, LocalField};
@@ -20,27 +19,26 @@ enum Next {
 // What the words of a body have said so far.
 #[derive(Drop)]
 struct Body {
-    name: Option<Name>,
     supertype: Option<Name>,
     field: Option<Name>,
     fields: Vec<LocalField>,
     methods: Vec<Name>,
 }
 
-impl Body {
-    // A word at which a part begins, or the name of the class.
-    fn begin(&mut self, alloc: Global, word: &str, out: &mut Answer) -> Next {
-        match word {
-            "extends" => Next::Supertype,
-            "field" => Next::Field,
-            "method" => Next::Method,
-            _ => {
-                self.name = name_in(alloc, word, out);
-                Next::Any
-            }
+// The part that begins at a word.
+fn begin(word: &str, out: &mut Answer) -> Next {
+    match word {
+        "extends" => Next::Supertype,
+        "field" => Next::Field,
+        "method" => Next::Method,
+        _ => {
+            out.refuse("body");
+            Next::Any
         }
     }
+}
 
+impl Body {
     // Adds the field whose type a word is.
     fn push_field(&mut self, alloc: Global, word: &str, out: &mut Answer) {
         if let Some(name) = self.field.take() {
@@ -63,7 +61,7 @@ impl Body {
     // One word more, and what the word behind it is.
     fn push(&mut self, alloc: Global, next: Next, word: &str, out: &mut Answer) -> Next {
         match next {
-            Next::Any => return self.begin(alloc, word, out),
+            Next::Any => return begin(word, out),
             Next::Supertype => self.supertype = name_in(alloc, word, out),
             Next::Field => {
                 self.field = name_in(alloc, word, out);
@@ -77,9 +75,8 @@ impl Body {
 }
 
 /// The body of a local or anonymous class.
-pub fn body_in(alloc: Global, text: &str, out: &mut Answer) -> Option<Frame> {
+pub fn body_in(alloc: Global, is_anonymous: bool, text: &str, out: &mut Answer) -> Frame {
     let mut body = Body {
-        name: name_in(alloc, "", out),
         supertype: None,
         field: None,
         fields: Vec::new(alloc),
@@ -90,16 +87,15 @@ pub fn body_in(alloc: Global, text: &str, out: &mut Answer) -> Option<Frame> {
         next = body.push(alloc, next, word, out);
     }
     let Body {
-        name,
         supertype,
         field: _,
         fields,
         methods,
     } = body;
-    Some(Frame::LocalClass {
-        name: name?,
+    Frame::LocalBody {
+        is_anonymous,
         supertype,
         fields: Items::from_vec(fields),
         methods: Items::from_vec(methods),
-    })
+    }
 }

@@ -1,7 +1,7 @@
 // Places in files, as people write them. Their lines are `package NAME`, `import [static] NAME[.*]`, `around NAME
 // TYPEPARAMETERS..` for the classes around a unit, the outermost first, and `frame` for the scopes inside of it, the
-// outermost first: `local NAME TYPE`, `param NAME`, `class NAME`, `body ..` (see `bodies`) and `declared NAME`, or `row
-// COUNT` for locals `v0`, `v1` and so on.
+// outermost first: `local NAME TYPE`, `param NAME`, `class NAME`, `body ..` and `anonymous ..` of a local and an
+// anonymous class (see `bodies`), and `declared NAME`, or `row COUNT` for locals `v0`, `v1` and so on.
 use crate::bodies::body_in;
 use crate::types::{first_word, name_in, names_in, type_in};
 use crate::world::Lists;
@@ -60,7 +60,8 @@ fn frame(alloc: Global, text: &str, out: &mut Answer) -> Option<Frame> {
     let (kind, behind) = first_word(text);
     match kind {
         "local" => local(alloc, behind, out),
-        "body" => body_in(alloc, behind, out),
+        "body" => Some(body_in(alloc, false, behind, out)),
+        "anonymous" => Some(body_in(alloc, true, behind, out)),
         "param" => Some(Frame::TypeParam {
             name: name_in(alloc, behind, out)?,
         }),

@@ -22,7 +22,7 @@ last_first xs i j x e lt is =
 -- a look for a body that has come to one
 module _ (around : Whose) (xs : List Frame) (i : ℕ) (h : first_body around (reverse (take i xs)) ≡ first_body around (reverse xs)) where
   pub is_first : (x : Frame) (w : Whose) → 0 < i → i ≤ length xs → x ≡ get_or xs (i - 1) x
-      → Some w ≡ body_of x (reverse (take (i - 1) xs)) → w ≡ first_body around (reverse xs)
+      → Some w ≡ body_of x → w ≡ first_body around (reverse xs)
   is_first x w pos le is e =
       ap (or_else (first_body around (reverse (take (i - 1) xs)))) e
       ∙ sym (ap (first_body around) (last_first xs i (i - 1) x (suc_of i pos) (omega (arith, le, pos)) is))

@@ -1,5 +1,5 @@
 -- The class around a place, `this` and `super` (JLS 8.8.7.1, 15.8.3, 15.8.4, 15.11.2).
-use Rattle.std.specs.Prelude.{ℕ, List, [], ◌∷◌, Option, None, Some, Bool, true, false, not, if◌then◌else◌}
+use Rattle.std.specs.Prelude.{ℕ, List, [], ◌∷◌, Option, None, Some, if◌then◌else◌}
 use Rattle.dialogue.specs.Dialogue.{done}
 use Rattle.jtypes.specs.World.{Rule}
 use Rattle.jtypes.specs.declared.types.JType.{JType}
@@ -9,7 +9,7 @@ use Rattle.j_names.specs.Calls.{superclass_of, super_of}
 use Rattle.j_names.specs.Names.{or_else, outward}
 use Rattle.j_names.specs.declared.context.EnclosingClass.{EnclosingClass}
 use Rattle.j_names.specs.declared.context.Frame.{Frame}
-use Rattle.j_names.specs.declared.context.Frame.TheVariants.{Class as ClassFrame, Declared, LocalClass, TypeParam}
+use Rattle.j_names.specs.declared.context.Frame.TheVariants.{Class as ClassFrame, LocalBody}
 use Rattle.j_names.specs.declared.context.UnitContext.{UnitContext}
 use Rattle.judging.specs.Judging.{Judging, give, looking}
 use Rattle.expression_names.specs.Calls.{constructing}
@@ -18,34 +18,19 @@ use Rattle.expression_names.specs.declared.bodies.Whose.TheVariants.{Named, Anon
 use Rattle.expression_names.specs.declared.denoted.Denoted.{Denoted}
 use Rattle.expression_names.specs.declared.denoted.Denoted.TheVariants.{Class}
 
--- Whose body a place stands in. All lists of scopes here go outward.
+-- Whose body a place stands in
 
--- behind the type parameters of a local class stands its name
-abbrev pub leads_to_name : List Frame → Bool
-leads_to_name (TypeParam name ∷ outer) = leads_to_name outer
-leads_to_name (Declared name ∷ outer) = true
-leads_to_name outer = false
+-- whose body a scope is, if it is one
+abbrev pub body_of : Frame → Option Whose
+body_of (ClassFrame name) = Some (Named name)
+body_of (LocalBody is_anonymous supertype fields methods) =
+    Some (if is_anonymous then Anonymous supertype else Local)
+body_of frame = None
 
--- the scopes around the body of a generic local class, whose own scope has no name
-abbrev pub is_around_generic : List Frame → Bool
-is_around_generic (TypeParam name ∷ outer) = leads_to_name outer
-is_around_generic outer = false
-
-abbrev pub is_anonymous : List ℕ → List Frame → Bool
-is_anonymous [] outer = not (is_around_generic outer)
-is_anonymous (x ∷ name) outer = false
-
--- whose body a scope is, if it is one, by the scopes around it
-abbrev pub body_of : Frame → List Frame → Option Whose
-body_of (ClassFrame name) outer = Some (Named name)
-body_of (LocalClass name supertype fields methods) outer =
-    Some (if is_anonymous name outer then Anonymous supertype else Local)
-body_of frame outer = None
-
--- the first body outward, or else that of a class around the unit
+-- the first body among scopes that go outward, or else that of a class around the unit
 abbrev pub first_body : Whose → List Frame → Whose
 first_body around [] = around
-first_body around (frame ∷ outer) = or_else (first_body around outer) (body_of frame outer)
+first_body around (frame ∷ outer) = or_else (first_body around outer) (body_of frame)
 
 abbrev pub body_around : List EnclosingClass → Whose
 body_around [] = Nobody

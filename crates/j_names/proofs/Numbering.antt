@@ -11,7 +11,7 @@ use Rattle.j_names.specs.Indexed.{declared_name, HasNumber, AllNumbered}
 use Rattle.j_names.specs.Scopes.{matters}
 use Rattle.j_names.specs.declared.context.Frame.{Frame}
 use Rattle.j_names.specs.declared.context.Frame.TheVariants.{Class as ClassFrame, Declared, Local as LocalFrame}
-use Rattle.j_names.specs.declared.context.Frame.TheVariants.{LocalClass, TypeParam}
+use Rattle.j_names.specs.declared.context.Frame.TheVariants.{LocalBody, TypeParam}
 
 abbrev pub Numbers : Type 0
 Numbers = List ℕ → Option ℕ
@@ -81,7 +81,7 @@ module _ (f : Numbers) (n : List ℕ) where
   number_by (LocalFrame name ty) i h e = inr (its_own name i h e)
   number_by (TypeParam name) i h e = inr (its_own name i h e)
   number_by (ClassFrame name) i h e = inl h
-  number_by (LocalClass name supertype fields methods) i h e = inl h
+  number_by (LocalBody is_anonymous supertype fields methods) i h e = inl h
   number_by (Declared name) i h e = inr (its_own name i h e)
 
   abbrev pub NoneIs : ℕ → List ℕ → Type 0

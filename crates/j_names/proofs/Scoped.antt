@@ -13,7 +13,7 @@ use Rattle.j_names.specs.Names.{type_in_frame, variable_in_frame}
 use Rattle.j_names.specs.Scopes.{matters, behind, IsLastBefore}
 use Rattle.j_names.specs.declared.context.Frame.{Frame}
 use Rattle.j_names.specs.declared.context.Frame.TheVariants.{Class as ClassFrame, Declared, Local as LocalFrame}
-use Rattle.j_names.specs.declared.context.Frame.TheVariants.{LocalClass, TypeParam}
+use Rattle.j_names.specs.declared.context.Frame.TheVariants.{LocalBody, TypeParam}
 use Rattle.j_names.proofs.Outward.{outward_more, outward_end, drop_split, pass}
 
 module _ {A : Type 0} (n : List ℕ) (f : Frame → Rule (Option A))
@@ -54,7 +54,7 @@ pub no_type : (top : Option (List ℕ)) (n : List ℕ) (x : Frame) → matters n
 no_type top n (LocalFrame name ty) e = refl
 no_type top n (TypeParam name) e = rw e refl
 no_type top n (ClassFrame name) e = true_false e
-no_type top n (LocalClass name supertype fields methods) e = true_false e
+no_type top n (LocalBody is_anonymous supertype fields methods) e = true_false e
 no_type top n (Declared name) e = rw e refl
 
 pub no_variable : (top : Option (List ℕ)) (n : List ℕ) (x : Frame) → matters n x ≡ false
@@ -62,7 +62,7 @@ pub no_variable : (top : Option (List ℕ)) (n : List ℕ) (x : Frame) → matte
 no_variable top n (LocalFrame name ty) e = rw e refl
 no_variable top n (TypeParam name) e = refl
 no_variable top n (ClassFrame name) e = true_false e
-no_variable top n (LocalClass name supertype fields methods) e = true_false e
+no_variable top n (LocalBody is_anonymous supertype fields methods) e = true_false e
 no_variable top n (Declared name) e = refl
 
 pub no_call : (top : Option (List ℕ)) (n : List ℕ) (x : Frame) → matters n x ≡ false
@@ -70,5 +70,5 @@ pub no_call : (top : Option (List ℕ)) (n : List ℕ) (x : Frame) → matters n
 no_call top n (LocalFrame name ty) e = refl
 no_call top n (TypeParam name) e = refl
 no_call top n (ClassFrame name) e = true_false e
-no_call top n (LocalClass name supertype fields methods) e = true_false e
+no_call top n (LocalBody is_anonymous supertype fields methods) e = true_false e
 no_call top n (Declared name) e = refl

@@ -21,7 +21,7 @@ use Rattle.j_names.specs.declared.called.Called.TheVariants.{Methods, Unknown}
 use Rattle.j_names.specs.declared.context.EnclosingClass.{EnclosingClass}
 use Rattle.j_names.specs.declared.context.Frame.{Frame}
 use Rattle.j_names.specs.declared.context.Frame.TheVariants.{Class as ClassFrame, Declared, Local as LocalFrame}
-use Rattle.j_names.specs.declared.context.Frame.TheVariants.{LocalClass, TypeParam}
+use Rattle.j_names.specs.declared.context.Frame.TheVariants.{LocalBody, TypeParam}
 use Rattle.j_names.specs.declared.context.UnitContext.{UnitContext}
 
 -- Calls with a receiver
@@ -51,7 +51,7 @@ abbrev pub call_in_frame : Option (List ℕ) → List ℕ → Frame → Rule (Op
 call_in_frame top n (LocalFrame name ty) = done None
 call_in_frame top n (TypeParam name) = done None
 call_in_frame top n (ClassFrame name) = found_in (methods_of top n name)
-call_in_frame top n (LocalClass name supertype fields methods) =
+call_in_frame top n (LocalBody is_anonymous supertype fields methods) =
     first_found (where_so (is_in methods n) Unknown ∷ inherited_call top n supertype ∷ [])
 call_in_frame top n (Declared name) = done None
 

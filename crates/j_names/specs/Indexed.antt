@@ -5,7 +5,7 @@ use Rattle.std.specs.Prelude.{suc, nat_eq}
 use lib.ListN.{get_or}
 use Rattle.j_names.specs.declared.context.Frame.{Frame}
 use Rattle.j_names.specs.declared.context.Frame.TheVariants.{Class as ClassFrame, Declared, Local as LocalFrame}
-use Rattle.j_names.specs.declared.context.Frame.TheVariants.{LocalClass, TypeParam}
+use Rattle.j_names.specs.declared.context.Frame.TheVariants.{LocalBody, TypeParam}
 use Rattle.j_names.specs.declared.link.Link.{Link}
 
 abbrev pub has_number : ℕ → Link → Bool
@@ -35,7 +35,7 @@ abbrev pub declared_name : Frame → Option (List ℕ)
 declared_name (LocalFrame name ty) = Some name
 declared_name (TypeParam name) = Some name
 declared_name (ClassFrame name) = None
-declared_name (LocalClass name supertype fields methods) = None
+declared_name (LocalBody is_anonymous supertype fields methods) = None
 declared_name (Declared name) = Some name
 
 -- bodies have the number 0

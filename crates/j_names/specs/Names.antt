@@ -11,7 +11,7 @@ use Rattle.j_names.specs.Members.{joined, type_at, field_of, member_type_of}
 use Rattle.j_names.specs.declared.context.EnclosingClass.{EnclosingClass}
 use Rattle.j_names.specs.declared.context.Frame.{Frame}
 use Rattle.j_names.specs.declared.context.Frame.TheVariants.{Class as ClassFrame, Declared, Local as LocalFrame}
-use Rattle.j_names.specs.declared.context.Frame.TheVariants.{LocalClass, TypeParam}
+use Rattle.j_names.specs.declared.context.Frame.TheVariants.{LocalBody, TypeParam}
 use Rattle.j_names.specs.declared.context.ImportRow.{ImportRow}
 use Rattle.j_names.specs.declared.context.LocalField.{LocalField}
 use Rattle.j_names.specs.declared.context.UnitContext.{UnitContext}
@@ -52,14 +52,14 @@ abbrev pub inherited_type : Option (List ℕ) → List ℕ → Option (List ℕ)
 inherited_type top n None = done None
 inherited_type top n (Some supertype) = member_type_of top n supertype
 
--- in the body of a class its member types come first, and then its own name; a local class is found and Unknown
+-- in the body of a class its member types come first, and then its own name; a local class, whose name is a scope of its
+-- own further out (JLS 6.3), is found and Unknown
 abbrev pub type_in_frame : Option (List ℕ) → List ℕ → Frame → Rule (Option Symbol)
 type_in_frame top n (LocalFrame name ty) = done None
 type_in_frame top n (TypeParam name) = where_so (name_eq name n) (TypeVar n)
 type_in_frame top n (ClassFrame name) =
     first_found (member_type_of top n name ∷ where_so (name_eq (last_part name) n) (Kind name) ∷ [])
-type_in_frame top n (LocalClass name supertype fields methods) =
-    first_found (inherited_type top n supertype ∷ where_so (name_eq name n) Unknown ∷ [])
+type_in_frame top n (LocalBody is_anonymous supertype fields methods) = inherited_type top n supertype
 type_in_frame top n (Declared name) = where_so (name_eq name n) Unknown
 
 -- a class around the unit: its member types, its type parameters, its own name
@@ -131,7 +131,7 @@ abbrev pub variable_in_frame : Option (List ℕ) → List ℕ → Frame → Rule
 variable_in_frame top n (LocalFrame name ty) = where_so (name_eq name n) (Local ty)
 variable_in_frame top n (TypeParam name) = done None
 variable_in_frame top n (ClassFrame name) = field_of top n name
-variable_in_frame top n (LocalClass name supertype fields methods) =
+variable_in_frame top n (LocalBody is_anonymous supertype fields methods) =
     first_found (done (declared_local fields n) ∷ inherited_field top n supertype ∷ [])
 variable_in_frame top n (Declared name) = done None
 

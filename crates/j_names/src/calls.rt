@@ -100,7 +100,7 @@ fn call_in_frame<C: Classes>(
             let found = call_in_body(alloc, top, n, name, c, asks)?;
             Ok(found)
         }
-        Frame::LocalClass {
+        Frame::LocalBody {
             supertype,
             methods,
             ..

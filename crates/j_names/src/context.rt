@@ -48,16 +48,16 @@ pub enum Frame {
     Class {
         name: Name,
     },
-    /// The body of a local class or, with the empty name, of an anonymous one. A generic local class stands as three
-    /// scopes, outward: its body with the empty name, its type parameters, and its name alone (`Declared`).
-    LocalClass {
-        name: Name,
+    /// The body of a local or anonymous class, which declares no name. A local class stands as scopes outward: its body,
+    /// its type parameters if it has any, and its name alone (`Declared`). The body of an anonymous class stands alone.
+    LocalBody {
+        is_anonymous: bool,
         supertype: Option<Name>,
         fields: Items<LocalField>,
         methods: Items<Name>,
     },
-    /// A local class that was declared further out in a block, and whose body isn't around the place. It declares just
-    /// its name, as a type that isn't known.
+    /// The name of a local class, as a type that isn't known. It is in scope in the class's own declaration and in the
+    /// rest of its block.
     Declared {
         name: Name,
     },

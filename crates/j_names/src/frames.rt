@@ -50,7 +50,7 @@ fn declared_name(frame: &Frame) -> Option<&Name>
         Frame::Local { name, .. } => Some(name),
         Frame::TypeParam { name } => Some(name),
         Frame::Class { .. } => None,
-        Frame::LocalClass { .. } => None,
+        Frame::LocalBody { .. } => None,
         Frame::Declared { name } => Some(name),
     }
 }

@@ -17,7 +17,9 @@ pub(crate) fn joined(alloc: Global, scope: &Name, name: &Name) -> Mem<Name>
     if scope.as_slice().is_empty() {
         return name.copy();
     }
-    let mut text = Vec::from_slice(alloc, scope.as_slice())?;
+    let len = scope.as_slice().len().saturating_add(name.as_slice().len());
+    let mut text = Vec::with_capacity(alloc, len.saturating_add(1))?;
+    text.extend_from_slice(scope.as_slice())?;
     text.push(b'.')?;
     text.extend_from_slice(name.as_slice())?;
     let joined = Name::new(alloc, text.as_slice())?;

@@ -109,15 +109,9 @@ fn type_in_frame<C: Classes>(
             let found = type_in_body(alloc, top, n, name, c, asks)?;
             Ok(found)
         }
-        Frame::LocalClass {
-            name,
-            supertype,
-            ..
-        } => {
-            if let Some(s) = inherited_type(alloc, top, n, supertype, c, asks)? {
-                return Ok(Some(s));
-            }
-            Ok(local_class(is_name(name, n)))
+        Frame::LocalBody { supertype, .. } => {
+            let found = inherited_type(alloc, top, n, supertype, c, asks)?;
+            Ok(found)
         }
         Frame::Declared { name } => Ok(local_class(is_name(name, n))),
     }

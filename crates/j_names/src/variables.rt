@@ -82,7 +82,7 @@ fn variable_in_frame<C: Classes>(
             let found = field_of(alloc, top, n, name, c, asks)?;
             Ok(found)
         }
-        Frame::LocalClass {
+        Frame::LocalBody {
             supertype,
             fields,
             ..

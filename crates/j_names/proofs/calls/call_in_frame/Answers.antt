@@ -9,19 +9,19 @@ use Rattle.j_names.proofs.calls.call_in_frame.Goals as goal
 pub returns-then-is_among : goal.returns-then-is_among
 returns-then-is_among g c =
     let n = c.args.n.now in
-    rw c.in-LocalClass.is (rule_before (g.C.Classes.world c.args.c.now)
-    (if is_in c.in-LocalClass.methods n then Some Unknown else None)
-    (inherited_call (option_copied c.args.top) n c.in-LocalClass.supertype) c.args.asks.now c.args.asks.now Unknown
+    rw c.in-LocalBody.is (rule_before (g.C.Classes.world c.args.c.now)
+    (if is_in c.in-LocalBody.methods n then Some Unknown else None)
+    (inherited_call (option_copied c.args.top) n c.in-LocalBody.supertype) c.args.asks.now c.args.asks.now Unknown
     (ap (λ b. if b then Some Unknown else None)
     (sym c.if-is_among.true ∙ (rw c.as_slice.ensures at c.is_among.ensures))))
 
-pub returns-in_ok-found-in-LocalClass : goal.returns-in_ok-found-in-LocalClass
-returns-in_ok-found-in-LocalClass g c =
+pub returns-in_ok-found-in-LocalBody : goal.returns-in_ok-found-in-LocalBody
+returns-in_ok-found-in-LocalBody g c =
     let n = c.args.n.now in
-    rw c.in-LocalClass.is (rule_behind (g.C.Classes.world c.args.c.now)
-    (if is_in c.in-LocalClass.methods n then Some Unknown else None)
-    (inherited_call (option_copied c.args.top) n c.in-LocalClass.supertype) c.args.asks.now c.inherited_call.new.asks
-    c.in_ok-found-in-LocalClass.found
+    rw c.in-LocalBody.is (rule_behind (g.C.Classes.world c.args.c.now)
+    (if is_in c.in-LocalBody.methods n then Some Unknown else None)
+    (inherited_call (option_copied c.args.top) n c.in-LocalBody.supertype) c.args.asks.now c.inherited_call.new.asks
+    c.in_ok-found-in-LocalBody.found
     (ap (λ b. if b then Some Unknown else None)
     (sym c.if-is_among.false ∙ (rw c.as_slice.ensures at c.is_among.ensures)))
-    c.in_ok-found-in-LocalClass.ensures)
+    c.in_ok-found-in-LocalBody.ensures)

@@ -1,5 +1,4 @@
 use Rattle.std.proofs.Common.{◌≡◌, ◌∙◌, ◌+◌, sym, ap, cond, None, Some}
-use Rattle.std.specs.Option.{option_copied}
 use Rattle.indexmap.specs.IndexMap.{get}
 use Rattle.jtypes.specs.World.{name_eq}
 use Rattle.j_names.proofs.Numbering.{kept_by}

@@ -1,4 +1,4 @@
-use Rattle.std.proofs.Common.{◌≡◌, ◌∙◌, sym, ap, subst, [], ◌∷◌, ◌++◌}
+use Rattle.std.proofs.Common.{◌∙◌, sym, ap, subst, [], ◌∷◌, ◌++◌}
 use Rattle.indexmap.specs.IndexMap.{get}
 use Rattle.jtypes.specs.World.{name_eq}
 use Rattle.j_names.specs.Indexed.{AllNumbered}
