@@ -1,3 +1,17 @@
 pub mod Tries
 pub mod Parts
 pub mod ElementSteps
+pub mod Places
+pub mod LetterSteps
+pub mod WordFronts
+pub mod StarredSteps
+pub mod PartSteps
+pub mod Spared
+pub mod Shifts
+pub mod TypeSteps
+pub mod PieceSteps
+pub mod OneType
+pub mod ParamSteps
+pub mod Delimited
+pub mod MethodSteps
+pub mod OnePattern

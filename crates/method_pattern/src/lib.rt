@@ -19,10 +19,21 @@
 //! `PartsLeft` and `Elements` say what small functions give; no public clause stands on them.
 #![tactic(auto)]
 
+mod fault;
+mod laws;
+mod letters;
 mod matching;
 mod names;
 mod onward;
+mod param_text;
 mod params;
 mod pattern;
+mod reading;
+mod starred;
+#[cfg(test)]
+mod tests;
+mod type_text;
 
+pub use fault::PatternFault;
+pub use laws::{method_patterns_are_one, type_patterns_are_one};
 pub use pattern::{MethodPattern, NamePiece, ParamPattern, TypePattern};
