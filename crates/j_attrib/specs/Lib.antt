@@ -1,0 +1,12 @@
+pub mod Around
+pub mod Values
+pub mod Words
+pub mod WrittenRows
+pub mod Primaries
+pub mod Expressions
+pub mod Declarations
+pub mod Rows
+pub mod Givens
+pub mod Bodies
+pub mod Scopes
+pub mod JavaTables
