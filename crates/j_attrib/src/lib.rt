@@ -6,9 +6,8 @@
 //! ```
 //!
 //! The definitions of all four tables stand in `specs/` and are checked. Of their code there is the first table,
-//! `given_to`, and each row of the third, in modules of their own with exact clauses. The one match that
-//! leads from a node's kind to its row, the tables of scopes, and the judgement of a unit aren't written yet, so nothing
-//! stands on this crate.
+//! `given_to`, and most rows of the third, in modules of their own with exact clauses. The match that leads from a node's
+//! kind to its row, the tables of scopes, and the judgement of a unit aren't written yet, so nothing stands on this crate.
 //!
 //! Read `specs/JavaTables.antt` first, then `Rows` (what a node of each kind gives, a line for each kind), `Givens` and
 //! `Scopes`, and what these cite: `Expressions`, `Primaries`, `WrittenRows`, `Declarations`, `Bodies`. `Around` is the file
